@@ -1,0 +1,2 @@
+// The language: the entries of tables, and in specs/ what they mean.
+pub mod entry;

@@ -17,7 +17,7 @@ pub data Repeats (P : List Letter → Type 0) : List Letter → Type 0 where
 -- the list v matches a sequence under the clock c
 abbrev pub Matches : Condition → Sequence → List Letter → Type 0
 Matches c (condition b) v = Tick c v × Ends b v
-Matches c (concat r s) v = (u : List Letter) × (w : List Letter) × (v ≡ u ++ w) × Matches c r u × Matches c s w
+Matches c (concat r s) v = (u w : List Letter) × (v ≡ u ++ w) × Matches c r u × Matches c s w
 Matches c (fusion r s) v =
     (u : List Letter) × (l : Letter) × (w : List Letter) × (v ≡ u ++ (l ∷ w)) × Matches c r (u ++ (l ∷ [])) × Matches c s (l ∷ w)
 Matches c (either r s) v = Matches c r v ⊎ Matches c s v

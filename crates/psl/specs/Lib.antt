@@ -6,3 +6,5 @@ pub mod Clocked
 pub mod Unclocked
 pub mod Removal
 pub mod Verdict
+pub mod Cases
+pub mod Literal

@@ -17,50 +17,42 @@ abbrev pub grow : {E T : Type 0} → (List T → E → T) → List T → List E 
 grow build earlier [] = earlier
 grow build earlier (e ∷ entries) = grow build (earlier ++ (build earlier e ∷ [])) entries
 
--- condition number a; where there is none, falsity
-abbrev pub condition-number : List Condition → ℕ → Condition
-condition-number cs a = getD cs a falsity
-
--- sequence number a; where there is none, [*0]
-abbrev pub sequence-number : List Sequence → ℕ → Sequence
-sequence-number rs a = getD rs a empty
-
--- formula number a; where there is none, false!
-abbrev pub formula-number : List Formula → ℕ → Formula
-formula-number fs a = getD fs a (strong falsity)
-
 -- the condition that an entry denotes, over the conditions before it
 abbrev pub condition-of : List Condition → entryC.Condition → Condition
 condition-of cs c.True = truth
 condition-of cs c.False = falsity
 condition-of cs (c.Atom n) = atom n
-condition-of cs (c.Not a) = negation (condition-number cs a)
-condition-of cs (c.And a b) = conjunction (condition-number cs a) (condition-number cs b)
+condition-of cs (c.Not a) = negation (getD cs a falsity)
+condition-of cs (c.And a b) = conjunction (getD cs a falsity) (getD cs b falsity)
 
 -- the sequence that an entry denotes, over the conditions and the sequences before it
 abbrev pub sequence-of : List Condition → List Sequence → entryS.Sequence → Sequence
-sequence-of cs rs (s.Condition a) = condition (condition-number cs a)
-sequence-of cs rs (s.Concat a b) = concat (sequence-number rs a) (sequence-number rs b)
-sequence-of cs rs (s.Fusion a b) = fusion (sequence-number rs a) (sequence-number rs b)
-sequence-of cs rs (s.Either a b) = either (sequence-number rs a) (sequence-number rs b)
-sequence-of cs rs (s.Both a b) = both (sequence-number rs a) (sequence-number rs b)
+sequence-of cs rs (s.Condition a) = condition (getD cs a falsity)
+sequence-of cs rs (s.Concat a b) = concat (getD rs a empty) (getD rs b empty)
+sequence-of cs rs (s.Fusion a b) = fusion (getD rs a empty) (getD rs b empty)
+sequence-of cs rs (s.Either a b) = either (getD rs a empty) (getD rs b empty)
+sequence-of cs rs (s.Both a b) = both (getD rs a empty) (getD rs b empty)
 sequence-of cs rs s.Empty = empty
-sequence-of cs rs (s.Star a) = star (sequence-number rs a)
-sequence-of cs rs (s.At a b) = sequence-at (sequence-number rs a) (condition-number cs b)
+sequence-of cs rs (s.Star a) = star (getD rs a empty)
+sequence-of cs rs (s.At a b) = sequence-at (getD rs a empty) (getD cs b falsity)
+
+-- the formula that stands where a table has none (a condition there is falsity, a sequence is [*0]): false!
+abbrev pub nothing : Formula
+nothing = strong falsity
 
 -- the formula that an entry denotes, over the conditions, the sequences and the formulas before it
 abbrev pub formula-of : List Condition → List Sequence → List Formula → entryF.Formula → Formula
-formula-of cs rs fs (f.Strong a) = strong (condition-number cs a)
-formula-of cs rs fs (f.Weak a) = weak (condition-number cs a)
-formula-of cs rs fs (f.StrongSequence a) = strong-sequence (sequence-number rs a)
-formula-of cs rs fs (f.WeakSequence a) = weak-sequence (sequence-number rs a)
-formula-of cs rs fs (f.Not a) = negated (formula-number fs a)
-formula-of cs rs fs (f.And a b) = conjoined (formula-number fs a) (formula-number fs b)
-formula-of cs rs fs (f.Next a) = next (formula-number fs a)
-formula-of cs rs fs (f.Until a b) = until (formula-number fs a) (formula-number fs b)
-formula-of cs rs fs (f.Abort a b) = abort (formula-number fs a) (condition-number cs b)
-formula-of cs rs fs (f.Implies a b) = implies (sequence-number rs a) (formula-number fs b)
-formula-of cs rs fs (f.At a b) = formula-at (formula-number fs a) (condition-number cs b)
+formula-of cs rs fs (f.Strong a) = strong (getD cs a falsity)
+formula-of cs rs fs (f.Weak a) = weak (getD cs a falsity)
+formula-of cs rs fs (f.StrongSequence a) = strong-sequence (getD rs a empty)
+formula-of cs rs fs (f.WeakSequence a) = weak-sequence (getD rs a empty)
+formula-of cs rs fs (f.Not a) = negated (getD fs a nothing)
+formula-of cs rs fs (f.And a b) = conjoined (getD fs a nothing) (getD fs b nothing)
+formula-of cs rs fs (f.Next a) = next (getD fs a nothing)
+formula-of cs rs fs (f.Until a b) = until (getD fs a nothing) (getD fs b nothing)
+formula-of cs rs fs (f.Abort a b) = abort (getD fs a nothing) (getD cs b falsity)
+formula-of cs rs fs (f.Implies a b) = implies (getD rs a empty) (getD fs b nothing)
+formula-of cs rs fs (f.At a b) = formula-at (getD fs a nothing) (getD cs b falsity)
 
 -- the conditions of a table
 unfoldable pub conditions : List entryC.Condition → List Condition

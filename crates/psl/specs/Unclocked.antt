@@ -11,20 +11,12 @@ use Rattle.psl.specs.Letter.{Letter, satisfies}
 use Rattle.psl.specs.Word.{Word, with-tops, mir, seen, Place, Holds, from, front}
 use Rattle.psl.specs.Clocked.{Repeats}
 
--- one letter, which satisfies b
-abbrev pub One : Condition → List Letter → Type 0
-One b [] = ⊥
-One b (l ∷ []) = T (satisfies l b)
-One b (l ∷ (m ∷ v)) = ⊥
-
 -- the list v matches a sequence that has no @
 abbrev pub Unclocked-matches : Sequence → List Letter → Type 0
-Unclocked-matches (condition b) v = One b v
-Unclocked-matches (concat r s) v =
-    (u : List Letter) × (w : List Letter) × (v ≡ u ++ w) × Unclocked-matches r u × Unclocked-matches s w
+Unclocked-matches (condition b) v = (l : Letter) × (v ≡ l ∷ []) × T (satisfies l b)
+Unclocked-matches (concat r s) v = (u w : List Letter) × (v ≡ u ++ w) × Unclocked-matches r u × Unclocked-matches s w
 Unclocked-matches (fusion r s) v =
-    (u : List Letter) × (l : Letter) × (w : List Letter) × (v ≡ u ++ (l ∷ w))
-    × Unclocked-matches r (u ++ (l ∷ [])) × Unclocked-matches s (l ∷ w)
+    (u : List Letter) × (l : Letter) × (w : List Letter) × (v ≡ u ++ (l ∷ w)) × Unclocked-matches r (u ++ (l ∷ [])) × Unclocked-matches s (l ∷ w)
 Unclocked-matches (either r s) v = Unclocked-matches r v ⊎ Unclocked-matches s v
 Unclocked-matches (both r s) v = Unclocked-matches r v × Unclocked-matches s v
 Unclocked-matches empty v = v ≡ []

@@ -1,0 +1,80 @@
+-- Places, suffixes, prefixes and mirrors of words.
+use mathlib.Core.List.{List, [], _∷_, _++_, map}
+use mathlib.Core.Option.{Option, none, some}
+use mathlib.Core.Path.{_≡_, refl, sym, _∙_, ap, ap₂, subst}
+use Prim.Native.Nat.{ℕ, zero, suc, _+_, _≤_, _<_}
+use native.Mathlib.Nat.{zero-add, suc-add, not-suc-le-zero, le-of-suc-le-suc}
+use native.Mathlib.Omega.{arith}
+use lib.ListN.{length, getD}
+use Rattle.psl.specs.Syntax.{Condition}
+use Rattle.psl.specs.Letter.{Letter, bottom, mirror}
+use Rattle.psl.specs.Word.{Tail, end, tops, bottoms, Word, with-tail, mirror-tail, mir, head, behead, rest, seen, Present, Place, Holds, from, or-bottom, front}
+use Rattle.psl.specs.Literal.{mirror-seen}
+use Rattle.psl.proofs.Refuted.{no-place}
+
+-- a letter that satisfies something is there
+pub holds-present : (x : Option Letter) (b : Condition) → Holds x b → Present x
+holds-present none b h = h
+holds-present (some l) b h = tt
+
+present-some : (x : Option Letter) → Present x → x ≡ some (or-bottom x)
+present-some none p = absurd p
+present-some (some l) p = refl
+
+-- places run from 0 without a gap
+first-place : (j : ℕ) (v : List Letter) (t : Tail) → Place (with-tail v t) j → Place (with-tail v t) zero
+first-place zero v t p = p
+first-place (suc j) [] end p = absurd (no-place j p)
+first-place (suc j) [] tops p = tt
+first-place (suc j) [] bottoms p = tt
+first-place (suc j) (l ∷ v) t p = tt
+
+pub place-below : (i j : ℕ) (w : Word) → i ≤ j → Place w j → Place w i
+place-below zero j w h p = first-place j (w .letters) (w .tail) p
+place-below (suc i) zero w h p = absurd (not-suc-le-zero h)
+place-below (suc i) (suc j) w h p = place-below i j (rest w) (le-of-suc-le-suc h) p
+
+-- suffixes
+pub from-from : (i j : ℕ) (w : Word) → from (from w i) j ≡ from w (i + j)
+from-from zero j w = rw (zero-add j)
+from-from (suc i) j w = rw (suc-add i j) (from-from i j (rest w))
+
+pub seen-from : (w : Word) (i m : ℕ) → seen (from w i) m ≡ seen w (i + m)
+seen-from w zero m = rw (zero-add m)
+seen-from w (suc i) m = rw (suc-add i m) (seen-from (rest w) i m)
+
+-- prefixes
+pub length-front : (n : ℕ) (w : Word) → length (front w n) ≡ n
+length-front zero w = refl
+length-front (suc n) w = ap suc (length-front n (rest w))
+
+pub front-at : (n m : ℕ) (w : Word) → m < n → Place w m → seen w m ≡ some (getD (front w n) m bottom)
+front-at zero m w h p = absurd (not-suc-le-zero h)
+front-at (suc n) zero w h p = present-some (seen w zero) p
+front-at (suc n) (suc m) w h p = front-at n m (rest w) (le-of-suc-le-suc h) p
+
+-- a list of n letters, each the one that the word has there, is the prefix
+pub front-only : (n : ℕ) (w : Word) (v : List Letter) → length v ≡ n → ((m : ℕ) → m < n → seen w m ≡ some (getD v m bottom)) → v ≡ front w n
+front-only zero w [] e h = refl
+front-only zero w (l ∷ v) e h = let z : ⊥ = omega arith in absurd z
+front-only (suc n) w [] e h = let z : ⊥ = omega arith in absurd z
+front-only (suc n) w (l ∷ v) e h =
+    ap₂ _∷_ (sym (ap or-bottom (h zero (omega arith)))) (front-only n (rest w) v (omega arith) (λ m i. h (suc m) (omega arith)))
+
+-- mirrors
+head-mir : (v : List Letter) (t : Tail) → head (map mirror v) (mirror-tail t) ≡ mirror-seen (head v t)
+head-mir [] end = refl
+head-mir [] tops = refl
+head-mir [] bottoms = refl
+head-mir (l ∷ v) t = refl
+
+behead-mir : (v : List Letter) → behead (map mirror v) ≡ map mirror (behead v)
+behead-mir [] = refl
+behead-mir (l ∷ v) = refl
+
+pub rest-mir : (w : Word) → rest (mir w) ≡ mir (rest w)
+rest-mir w = ap (λ v. with-tail v (mirror-tail (w .tail))) (behead-mir (w .letters))
+
+pub seen-mir : (w : Word) (i : ℕ) → seen (mir w) i ≡ mirror-seen (seen w i)
+seen-mir w zero = head-mir (w .letters) (w .tail)
+seen-mir w (suc i) = rw (rest-mir w) (seen-mir (rest w) i)

@@ -1,7 +1,7 @@
 -- Places, suffixes, prefixes and mirrors of words.
-use mathlib.Core.List.{List, [], _∷_, _++_, map}
-use mathlib.Core.Option.{Option, none, some}
-use mathlib.Core.Path.{_≡_, refl, sym, _∙_, ap, ap₂, subst}
+use mathlib.Core.List.{List, [], _∷_, map}
+use mathlib.Core.Option.{Option, none, some, Option·map}
+use mathlib.Core.Path.{_≡_, refl, sym, ap, ap₂, subst}
 use Prim.Native.Nat.{ℕ, zero, suc, _+_, _≤_, _<_}
 use native.Mathlib.Nat.{zero-add, suc-add, not-suc-le-zero, le-of-suc-le-suc}
 use native.Mathlib.Omega.{arith}
@@ -9,7 +9,6 @@ use lib.ListN.{length, getD}
 use Rattle.psl.specs.Syntax.{Condition}
 use Rattle.psl.specs.Letter.{Letter, bottom, mirror}
 use Rattle.psl.specs.Word.{Tail, end, tops, bottoms, Word, with-tail, mirror-tail, mir, head, behead, rest, seen, Present, Place, Holds, from, or-bottom, front}
-use Rattle.psl.specs.Literal.{mirror-seen}
 use Rattle.psl.proofs.Refuted.{no-place}
 
 -- a letter that satisfies something is there
@@ -62,7 +61,7 @@ front-only (suc n) w (l ∷ v) e h =
     ap₂ _∷_ (sym (ap or-bottom (h zero (omega arith)))) (front-only n (rest w) v (omega arith) (λ m i. h (suc m) (omega arith)))
 
 -- mirrors
-head-mir : (v : List Letter) (t : Tail) → head (map mirror v) (mirror-tail t) ≡ mirror-seen (head v t)
+head-mir : (v : List Letter) (t : Tail) → head (map mirror v) (mirror-tail t) ≡ Option·map mirror (head v t)
 head-mir [] end = refl
 head-mir [] tops = refl
 head-mir [] bottoms = refl
@@ -75,6 +74,21 @@ behead-mir (l ∷ v) = refl
 pub rest-mir : (w : Word) → rest (mir w) ≡ mir (rest w)
 rest-mir w = ap (λ v. with-tail v (mirror-tail (w .tail))) (behead-mir (w .letters))
 
-pub seen-mir : (w : Word) (i : ℕ) → seen (mir w) i ≡ mirror-seen (seen w i)
+pub seen-mir : (w : Word) (i : ℕ) → seen (mir w) i ≡ Option·map mirror (seen w i)
 seen-mir w zero = head-mir (w .letters) (w .tail)
 seen-mir w (suc i) = rw (rest-mir w) (seen-mir (rest w) i)
+
+-- a word and its mirror have the same places
+present-mirror : (x : Option Letter) → Present (Option·map mirror x) → Present x
+present-mirror none p = p
+present-mirror (some l) p = tt
+
+mirror-present : (x : Option Letter) → Present x → Present (Option·map mirror x)
+mirror-present none p = p
+mirror-present (some l) p = tt
+
+pub place-of-mir : (w : Word) (i : ℕ) → Place (mir w) i → Place w i
+place-of-mir w i p = present-mirror (seen w i) (subst Present (seen-mir w i) p)
+
+pub place-in-mir : (w : Word) (i : ℕ) → Place w i → Place (mir w) i
+place-in-mir w i p = subst Present (sym (seen-mir w i)) (mirror-present (seen w i) p)

@@ -1,13 +1,13 @@
 -- What an ordinary letter, a bottom or a missing letter rules out, mostly under the clock true.
 use mathlib.Core.Bool.{Bool}
 use mathlib.Core.List.{List, [], _∷_, _++_}
-use mathlib.Core.Path.{_≡_, refl, subst}
+use mathlib.Core.Path.{_≡_, subst}
 use Prim.Native.Nat.{ℕ, zero, suc}
 use lib.Dec.{T}
 use Rattle.psl.specs.Syntax.{Condition, truth, negation, Sequence, condition, concat, Formula, strong, next}
 use Rattle.psl.specs.Letter.{Letter, bottom, ordinary, satisfies}
-use Rattle.psl.specs.Word.{Tail, end, tops, bottoms, with-tail, with-tops, Word, seen, Place, Holds, front, Tick, Ends}
-use Rattle.psl.specs.Clocked.{Matches, Starts, Satisfies}
+use Rattle.psl.specs.Word.{Tail, end, tops, bottoms, with-tail, with-tops, Word, seen, Place, Holds, front, Tick}
+use Rattle.psl.specs.Clocked.{Matches, Satisfies}
 use Rattle.psl.specs.Verdict.{Judged, pending, failed-for-good}
 
 -- no endless tops follow

@@ -1,15 +1,15 @@
 -- The twelve settled cases, proved of the definitions.
-use mathlib.Core.List.{List, [], _∷_, _++_}
-use mathlib.Core.Path.{_≡_, refl}
-use mathlib.Core.Logic.{_⊎_, inl, inr}
+use mathlib.Core.List.{List, [], _∷_}
+use mathlib.Core.Path.{refl}
+use mathlib.Core.Logic.{inl, inr}
 use Prim.Native.Nat.{ℕ, zero, suc, _<_}
 use native.Mathlib.Omega.{arith}
-use Rattle.psl.specs.Syntax.{Condition, truth, falsity, atom, Sequence, condition, concat, both}
-use Rattle.psl.specs.Syntax.{Formula, strong, strong-sequence, weak-sequence, negated, next, until, abort, implies, formula-at}
-use Rattle.psl.specs.Letter.{Letter, top, bottom, ordinary}
-use Rattle.psl.specs.Word.{Tail, end, tops, bottoms, Word, with-tail, with-tops, mir, seen, from, Place, Holds, front, Tick}
+use Rattle.psl.specs.Syntax.{Condition, truth, atom, Sequence, condition, concat, both}
+use Rattle.psl.specs.Syntax.{Formula, strong, strong-sequence, weak-sequence, negated, next, until, abort, implies}
+use Rattle.psl.specs.Letter.{Letter, top, bottom}
+use Rattle.psl.specs.Word.{Tail, end, tops, bottoms, with-tail, with-tops, mir, seen, from, Place, Holds, front, Tick}
 use Rattle.psl.specs.Clocked.{Matches, Starts, Satisfies}
-use Rattle.psl.specs.Verdict.{Judged, held-for-good, holds}
+use Rattle.psl.specs.Verdict.{held-for-good, holds}
 use Rattle.psl.specs.Cases.{p, q, s, k, among, wire, p-is-x, is, Twelve-settled-cases}
 use Rattle.psl.proofs.Refuted.{Topless, failing, waiting, no-place, nothing-beyond, bottom-first, no-tick-beyond}
 use Rattle.psl.proofs.Refuted.{strong-fails, match-fails, next-fails, concat-rest}
@@ -69,11 +69,11 @@ until-waits t x (zero, h, g, b) = strong-fails (among (p ∷ [])) (among (p ∷ 
 until-waits t x (suc i, h, g, b) = nothing-beyond t x i truth h
 
 until-tops : Satisfies truth p-until-q (with-tops (P ∷ []))
-until-tops = (1, tt, (zero, tt, tt), before)
+until-tops = (1, tt, (zero, tt, tt), earlier)
   where
-    before : (j : ℕ) → j < 1 → Holds (seen (mir (with-tops (P ∷ []))) j) truth → Satisfies truth (strong (atom p)) (from (with-tops (P ∷ [])) j)
-    before zero i h = (zero, tt, tt)
-    before (suc j) i h = let z : ⊥ = omega arith in absurd z
+    earlier : (j : ℕ) → j < 1 → Holds (seen (mir (with-tops (P ∷ []))) j) truth → Satisfies truth (strong (atom p)) (from (with-tops (P ∷ [])) j)
+    earlier zero i h = (zero, tt, tt)
+    earlier (suc j) i h = let z : ⊥ = omega arith in absurd z
 
 -- p! U q! fails on {p}, {}: neither p nor q at {}
 until-fails : (t : Tail) → Satisfies truth p-until-q (with-tail (P ∷ O ∷ []) t) → ⊥

@@ -1,74 +1,18 @@
 -- The shapes of the definitions say what the literal wording says.
 use mathlib.Core.List.{List, [], _∷_, _++_}
-use mathlib.Core.Option.{Option, none, some}
 use mathlib.Core.Path.{_≡_, refl, sym, _∙_, ap, subst}
 use mathlib.Core.Logic.{_⊎_, inl, inr, _↔_}
-use Prim.Native.Nat.{ℕ, zero, suc, _+_, _-_, _≤_, _<_}
-use native.Mathlib.Nat.{zero-add, not-suc-le-zero, le-of-suc-le-suc}
+use Prim.Native.Nat.{ℕ, suc, _+_, _-_, _<_}
 use native.Mathlib.Omega.{arith}
 use lib.Dec.{T}
-use lib.ListN.{length, getD}
-use Rattle.psl.specs.Syntax.{Condition, negation, Sequence, condition, star, Formula, strong, next}
-use Rattle.psl.specs.Letter.{Letter, bottom, satisfies}
-use Rattle.psl.specs.Word.{Word, rest, seen, Place, Holds, from, or-bottom, front, Tick, Ends}
+use Rattle.psl.specs.Syntax.{Condition, Sequence, condition}
+use Rattle.psl.specs.Syntax.{Formula, strong, weak, strong-sequence, weak-sequence, next, abort, implies}
+use Rattle.psl.specs.Letter.{Letter, satisfies}
+use Rattle.psl.specs.Word.{Word, with-tops, mir, seen, Holds, from, front, Ends}
 use Rattle.psl.specs.Clocked.{Repeats, done, more, Matches, Satisfies}
 use Rattle.psl.specs.Literal.{Stretch, Literal-tick, Tick-from-to, Literal-wording}
-use Rattle.psl.proofs.Places.{holds-present, place-below, from-from, seen-from, length-front, front-at, front-only, seen-mir}
-
--- a prefix of letters that are there
-stretch-front : (w : Word) (i n : ℕ) → ((m : ℕ) → m < n → Place (from w i) m) → Stretch w i n (front (from w i) n)
-stretch-front w i n p = (length-front n (from w i), λ m h. sym (seen-from w i m) ∙ front-at n m (from w i) h (p m h))
-
-stretch-only : (w : Word) (i n : ℕ) (v : List Letter) → Stretch w i n v → v ≡ front (from w i) n
-stretch-only w i n v (e, h) = front-only n (from w i) v e (λ m k. seen-from w i m ∙ h m k)
-
-prefix : (w : Word) (j n : ℕ) → Place w j → n ≤ suc j → (v : List Letter) → Stretch w 0 n v ↔ (v ≡ front w n)
-prefix w j n p h v = (
-  stretch-only w 0 n v,
-  λ e. subst (Stretch w 0 n) (sym e) (stretch-front w 0 n (λ m k. place-below m j w (omega arith) p)),
-)
-
--- ticks
-tick-to : (c : Condition) (v : List Letter) → Tick c v → Literal-tick c v
-tick-to c [] t = absurd t
-tick-to c (l ∷ []) t = ([], l, refl, t, λ m h. absurd (not-suc-le-zero h))
-tick-to c (l ∷ (k ∷ v)) (a, t) = let (u, x, e, h, f) = tick-to c (k ∷ v) t in (l ∷ u, x, ap (λ y. l ∷ y) e, h, earlier u f)
-  where
-    earlier : (u : List Letter) → ((m : ℕ) → m < length u → T (satisfies (getD u m bottom) (negation c)))
-        → (m : ℕ) → m < length (l ∷ u) → T (satisfies (getD (l ∷ u) m bottom) (negation c))
-    earlier u f zero h = a
-    earlier u f (suc m) h = f m (le-of-suc-le-suc h)
-
-tick-made : (c : Condition) (u : List Letter) (l : Letter) → T (satisfies l c)
-    → ((m : ℕ) → m < length u → T (satisfies (getD u m bottom) (negation c))) → Tick c (u ++ (l ∷ []))
-tick-made c [] l h f = h
-tick-made c (x ∷ []) l h f = (f zero (omega arith), h)
-tick-made c (x ∷ (y ∷ u)) l h f = (f zero (omega arith), tick-made c (y ∷ u) l h (λ m i. f (suc m) (omega arith)))
-
-tick : (c : Condition) (v : List Letter) → Tick c v ↔ Literal-tick c v
-tick c v = (tick-to c v, λ (u, l, e, h, f). subst (Tick c) (sym e) (tick-made c u l h f))
-
--- the last letter of a tick stands there, since bottom satisfies nothing
-letter-holds : (x : Option Letter) (c : Condition) → T (satisfies (or-bottom x) c) → Holds x c
-letter-holds none c h = h
-letter-holds (some l) c h = h
-
-tick-last : (c : Condition) (j : ℕ) (w : Word) → Tick c (front w (suc j)) → Holds (seen w j) c
-tick-last c zero w t = letter-holds (seen w zero) c t
-tick-last c (suc j) w t = tick-last c j (rest w) (t .1)
-
-tick-place : (c : Condition) (j : ℕ) (w : Word) → Tick c (front w (suc j)) → Place w j
-tick-place c j w t = holds-present (seen w j) c (tick-last c j w t)
-
--- a tick of k + 1 letters from place i on
-tick-part : (c : Condition) (w : Word) (i j k : ℕ) → suc j - i ≡ suc k → Tick c (front (from w i) (suc k)) ↔ Tick-from-to c w i j
-tick-part c w i j k e = (
-  (λ t. (front (from w i) (suc k),
-    subst (λ n. Stretch w i n (front (from w i) (suc k))) (sym e)
-      (stretch-front w i (suc k) (λ m h. place-below m k (from w i) (omega arith) (tick-place c k (from w i) t))),
-    tick-to c (front (from w i) (suc k)) t)),
-  (λ (v, s, t). subst (Tick c) (stretch-only w i (suc k) v (subst (λ n. Stretch w i n v) e s)) (tick c v .1 t)),
-)
+use Rattle.psl.proofs.Places.{holds-present, from-from, seen-from, seen-mir, place-of-mir, place-in-mir}
+use Rattle.psl.proofs.Stretches.{stretch-at, stretch-only, stretch-place, prefix, tick, tick-place, tick-part}
 
 -- a list that ends in a letter that satisfies b
 ends-last : (b : Condition) (u : List Letter) (l : Letter) → T (satisfies l b) → Ends b (u ++ (l ∷ []))
@@ -138,6 +82,46 @@ next-tick c f w = (to, back)
           subst (Satisfies c f) (ap (from w) e ∙ sym (from-from (suc j) d w)) s,
         )
 
+-- b, r!, r, abort and |->, by letters that are there
+weak-condition : (c b : Condition) (w : Word) → Satisfies c (weak b) w ↔ ((j : ℕ) → Tick-from-to c (mir w) 0 j → Holds (seen w j) b)
+weak-condition c b w = (
+  (λ s j t. let k = tick-part c (mir w) 0 j j (omega arith) .1 t in s j (place-of-mir w j (tick-place c j (mir w) k)) k),
+  (λ s j p t. s j (tick-part c (mir w) 0 j j (omega arith) .0 t)),
+)
+
+strong-match : (c : Condition) (r : Sequence) (w : Word)
+    → Satisfies c (strong-sequence r) w ↔ ((j : ℕ) × (v : List Letter) × Stretch w 0 (suc j) v × Matches c r v)
+strong-match c r w = (
+  (λ (j, p, m). (j, front w (suc j), stretch-at w j (suc j) p (omega arith), m)),
+  (λ (j, v, s, m). (j, stretch-place w j v s, subst (Matches c r) (stretch-only w 0 (suc j) v s) m)),
+)
+
+weak-match : (c : Condition) (r : Sequence) (w : Word) → Satisfies c (weak-sequence r) w
+    ↔ ((j : ℕ) (v : List Letter) → Stretch w 0 (suc j) v → Satisfies c (strong-sequence r) (with-tops v))
+weak-match c r w = (
+  (λ x j v s. subst (λ y. Satisfies c (strong-sequence r) (with-tops y)) (sym (stretch-only w 0 (suc j) v s)) (x j (stretch-place w j v s))),
+  (λ x j p. x j (front w (suc j)) (stretch-at w j (suc j) p (omega arith))),
+)
+
+aborted : (c b : Condition) (f : Formula) (w : Word) → Satisfies c (abort f b) w
+    ↔ (Satisfies c f w ⊎ ((j : ℕ) × Holds (seen w j) b × ((v : List Letter) × Stretch w 0 j v × Satisfies c f (with-tops v))))
+aborted c b f w = (to, back)
+  where
+    to : Satisfies c (abort f b) w → Satisfies c f w ⊎ ((j : ℕ) × Holds (seen w j) b × ((v : List Letter) × Stretch w 0 j v × Satisfies c f (with-tops v)))
+    to (inl x) = inl x
+    to (inr (j, h, x)) = inr (j, h, (front w j, stretch-at w j j (holds-present (seen w j) b h) (omega arith), x))
+
+    back : Satisfies c f w ⊎ ((j : ℕ) × Holds (seen w j) b × ((v : List Letter) × Stretch w 0 j v × Satisfies c f (with-tops v))) → Satisfies c (abort f b) w
+    back (inl x) = inl x
+    back (inr (j, h, (v, s, x))) = inr (j, h, subst (λ y. Satisfies c f (with-tops y)) (stretch-only w 0 j v s) x)
+
+implied : (c : Condition) (r : Sequence) (f : Formula) (w : Word) → Satisfies c (implies r f) w
+    ↔ ((j : ℕ) (v : List Letter) → Stretch (mir w) 0 (suc j) v → Matches c r v → Satisfies c f (from w j))
+implied c r f w = (
+  (λ x j v s m. x j (place-of-mir w j (stretch-place (mir w) j v s)) (subst (Matches c r) (stretch-only (mir w) 0 (suc j) v s) m)),
+  (λ x j p m. x j (front (mir w) (suc j)) (stretch-at (mir w) j (suc j) (place-in-mir w j p) (omega arith)) m),
+)
+
 pub literal-wording : Literal-wording
 literal-wording = record {
   prefix = prefix;
@@ -147,5 +131,10 @@ literal-wording = record {
   last = last;
   repeated = λ c r v. (star-to (Matches c r), star-made (Matches c r) v);
   strong-condition = strong-condition;
-  next-tick = next-tick
+  weak-condition = weak-condition;
+  strong-match = strong-match;
+  weak-match = weak-match;
+  next-tick = next-tick;
+  aborted = aborted;
+  implied = implied
 }

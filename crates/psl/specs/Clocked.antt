@@ -41,8 +41,7 @@ Satisfies c (conjoined f g) w = Satisfies c f w × Satisfies c g w
 Satisfies c (next f) w =
     (j : ℕ) × (k : ℕ) × Tick c (front w (suc j)) × Tick c (front (from w (suc j)) (suc k)) × Satisfies c f (from (from w (suc j)) k)
 Satisfies c (until f g) w =
-    (k : ℕ) × Holds (seen w k) c × Satisfies c g (from w k)
-    × ((j : ℕ) → j < k → Holds (seen (mir w) j) c → Satisfies c f (from w j))
+    (k : ℕ) × Holds (seen w k) c × Satisfies c g (from w k) × ((j : ℕ) → j < k → Holds (seen (mir w) j) c → Satisfies c f (from w j))
 Satisfies c (abort f b) w = Satisfies c f w ⊎ ((j : ℕ) × Holds (seen w j) b × Satisfies c f (with-tops (front w j)))
 Satisfies c (implies r f) w = (j : ℕ) → Place w j → Matches c r (front (mir w) (suc j)) → Satisfies c f (from w j)
 Satisfies c (formula-at f d) w = Satisfies d f w

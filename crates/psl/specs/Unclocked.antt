@@ -4,7 +4,6 @@ use mathlib.Core.Path.{_≡_}
 use mathlib.Core.Logic.{_⊎_}
 use Prim.Native.Nat.{ℕ, zero, suc, _<_}
 use lib.Dec.{T}
-use Rattle.psl.specs.Syntax.{Condition}
 use Rattle.psl.specs.Syntax.{Sequence, condition, concat, fusion, either, both, empty, star, sequence-at}
 use Rattle.psl.specs.Syntax.{Formula, strong, weak, strong-sequence, weak-sequence, negated, conjoined, next, until, abort, implies, formula-at}
 use Rattle.psl.specs.Letter.{Letter, satisfies}

@@ -17,12 +17,12 @@ Topless tops = ⊥
 Topless bottoms = Unit {0}
 
 -- what no tail brings about has failed for good
-pub failing : (S : Word → Type 0) (v : List Letter) → ((t : Tail) → S (with-tail v t) → ⊥) → Judged S v 0
-failing S v n = failed-for-good (n bottoms) (n end) (n tops)
+pub failing : {S : Word → Type 0} {v : List Letter} → ((t : Tail) → S (with-tail v t) → ⊥) → Judged S v 0
+failing n = failed-for-good (n bottoms) (n end) (n tops)
 
 -- what only tops bring about is pending
-pub waiting : (S : Word → Type 0) (v : List Letter) → ((t : Tail) → Topless t → S (with-tail v t) → ⊥) → S (with-tops v) → Judged S v 1
-waiting S v n y = pending (n bottoms tt) (n end tt) y
+pub waiting : {S : Word → Type 0} {v : List Letter} → ((t : Tail) → Topless t → S (with-tail v t) → ⊥) → S (with-tops v) → Judged S v 1
+waiting n y = pending (n bottoms tt) (n end tt) y
 
 -- past its end a finite word has no place
 pub no-place : (j : ℕ) → Place (with-tail [] end) j → ⊥

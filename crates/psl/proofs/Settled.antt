@@ -5,7 +5,7 @@ use mathlib.Core.Logic.{inl, inr}
 use Prim.Native.Nat.{ℕ, zero, suc, _<_}
 use native.Mathlib.Omega.{arith}
 use Rattle.psl.specs.Syntax.{Condition, truth, atom, Sequence, condition, concat, both}
-use Rattle.psl.specs.Syntax.{Formula, strong, strong-sequence, weak-sequence, negated, next, until, abort, implies}
+use Rattle.psl.specs.Syntax.{Formula, strong, weak-sequence, negated, next, until, abort, implies}
 use Rattle.psl.specs.Letter.{Letter, top, bottom}
 use Rattle.psl.specs.Word.{Tail, end, tops, bottoms, with-tail, with-tops, mir, seen, from, Place, Holds, front, Tick}
 use Rattle.psl.specs.Clocked.{Matches, Starts, Satisfies}
@@ -28,6 +28,10 @@ pq = concat (is p) (is q)
 abbrev p-until-q : Formula
 p-until-q = until (strong (atom p)) (strong (atom q))
 
+-- X! p! on {} waits for a second letter
+next-waits : (t : Tail) → Topless t → Satisfies truth (next (strong (atom p))) (with-tail (O ∷ []) t) → ⊥
+next-waits t = next-fails (among []) (among []) (strong (atom p)) t
+
 -- where {p} and then l stand first, p;q needs q at l
 pq-second : (l : Letter) (v : List Letter) (t : Tail)
     → ((n : ℕ) → Matches truth (is q) (front (with-tail (l ∷ v) t) n) → ⊥) → Starts truth pq (with-tail (P ∷ l ∷ v) t) → ⊥
@@ -45,6 +49,9 @@ weak-pq (suc j) h = absurd (no-place j h)
 bottom-no-q : (n : ℕ) → Matches truth (is q) (front (with-tops (bottom ∷ [])) n) → ⊥
 bottom-no-q zero (h, e) = h
 bottom-no-q (suc n) (h, e) = bottom-first truth (front (with-tops []) n) h
+
+weak-pq-bottoms : Satisfies truth (weak-sequence pq) (with-tail (P ∷ []) bottoms) → ⊥
+weak-pq-bottoms x = pq-second bottom [] tops bottom-no-q (x 1 tt)
 
 -- weak p;q fails on {p}, {}: the prefix {p}, {} leads nowhere
 weak-pq-fails : (t : Tail) → Satisfies truth (weak-sequence pq) (with-tail (P ∷ O ∷ []) t) → ⊥
@@ -123,28 +130,32 @@ implies-held (suc (suc j)) h m = absurd (then-rest (wire (q ∷ []) ∷ front (w
 next-at-bottom : (f : Formula) (v : List Letter) (t : Tail) → Satisfies truth (next f) (with-tail (bottom ∷ v) t) → ⊥
 next-at-bottom f v t (j, i, a, b, x) = bottom-first truth (front (with-tail v t) j) a
 
+-- where p is x, neither p! nor its negation
+p-fails-at-x : (t : Tail) → Satisfies truth (strong (atom p)) (with-tail (p-is-x ∷ []) t) → ⊥
+p-fails-at-x t = strong-fails (among []) (among (p ∷ [])) (atom p) [] t (λ h. h)
+
+not-p-fails-at-x : (t : Tail) → Satisfies truth (negated (strong (atom p))) (with-tail (p-is-x ∷ []) t) → ⊥
+not-p-fails-at-x t n = n (zero, tt, tt)
+
+infixr 30 _and_
+-- a fact, and those after it
+_and_ : {A B : Type 0} → A → B → A × B
+_and_ a b = (a, b)
+
 -- the cases in their order, each with its verdicts
 pub twelve-settled : Twelve-settled-cases
-twelve-settled = (
-  (held-for-good (zero, tt, tt), tt),
-  ((waiting (Satisfies truth (next (strong (atom p)))) (O ∷ []) (next-fails (among []) (among []) (strong (atom p))) (zero, zero, tt, tt, (zero, tt, tt)),
-    (held-for-good (zero, zero, tt, tt, (zero, tt, tt)), tt)),
-  ((holds (λ x. pq-second bottom [] tops bottom-no-q (x 1 tt)) weak-pq,
-    (failing (Satisfies truth (weak-sequence pq)) (P ∷ O ∷ []) weak-pq-fails, tt)),
-  ((waiting (Satisfies truth (strong-sequence pq)) (P ∷ []) pq-waits (1, tt, p-and-top (atom q)),
-    (held-for-good (1, tt, (P ∷ [], wire (q ∷ []) ∷ [], refl, (tt, tt), (tt, tt))), tt)),
-  ((failing (Satisfies truth (weak-sequence (both (concat (is p) (is p)) (is p)))) (P ∷ []) both-fails, tt),
-  ((waiting (Satisfies truth p-until-q) (P ∷ []) until-waits until-tops,
-    (failing (Satisfies truth p-until-q) (P ∷ O ∷ []) until-fails, tt)),
-  ((waiting (Satisfies truth (abort p-until-q (atom s))) (P ∷ []) abort-waits (inl until-tops),
-    (held-for-good (inr (1, tt, until-tops)), tt)),
-  ((held-for-good (inr (zero, tt, (zero, tt, tt))), tt),
-  ((waiting (Satisfies (atom k) (strong (atom p))) (O ∷ []) clock-waits (1, (tt, tt), tt),
-    (waiting (Satisfies (atom k) (strong (atom p))) (O ∷ P ∷ []) clock-waits-on (2, (tt, (tt, tt)), tt),
-    (held-for-good (2, (tt, (tt, tt)), tt), tt))),
-  ((holds implies-bottoms implies-holds, (held-for-good implies-held, tt)),
-  ((failing (Satisfies truth (next (strong truth))) (bottom ∷ []) (next-at-bottom (strong truth) []),
-    (failing (Satisfies truth (next (strong truth))) (bottom ∷ O ∷ []) (next-at-bottom (strong truth) (O ∷ [])), tt)),
-  ((failing (Satisfies truth (strong (atom p))) (p-is-x ∷ []) (λ t. strong-fails (among []) (among (p ∷ [])) (atom p) [] t (λ h. h)), tt),
-  ((failing (Satisfies truth (negated (strong (atom p)))) (p-is-x ∷ []) (λ t n. n (zero, tt, tt)), tt),
-  tt)))))))))))))
+twelve-settled =
+    (held-for-good (zero, tt, tt) and tt)
+    and (waiting next-waits (zero, zero, tt, tt, (zero, tt, tt)) and held-for-good (zero, zero, tt, tt, (zero, tt, tt)) and tt)
+    and (holds weak-pq-bottoms weak-pq and failing weak-pq-fails and tt)
+    and (waiting pq-waits (1, tt, p-and-top (atom q)) and held-for-good (1, tt, (P ∷ [], wire (q ∷ []) ∷ [], refl, (tt, tt), (tt, tt))) and tt)
+    and (failing both-fails and tt)
+    and (waiting until-waits until-tops and failing until-fails and tt)
+    and (waiting abort-waits (inl until-tops) and held-for-good (inr (1, tt, until-tops)) and tt)
+    and (held-for-good (inr (zero, tt, (zero, tt, tt))) and tt)
+    and (waiting clock-waits (1, (tt, tt), tt) and waiting clock-waits-on (2, (tt, (tt, tt)), tt) and held-for-good (2, (tt, (tt, tt)), tt) and tt)
+    and (holds implies-bottoms implies-holds and held-for-good implies-held and tt)
+    and (failing (next-at-bottom (strong truth) []) and failing (next-at-bottom (strong truth) (O ∷ [])) and tt)
+    and (failing p-fails-at-x and tt)
+    and (failing not-p-fails-at-x and tt)
+    and tt

@@ -69,9 +69,11 @@ tick-place c j w t = holds-present (seen w j) c (tick-last c j w t)
 -- a tick of k + 1 letters from place i on
 pub tick-part : (c : Condition) (w : Word) (i j k : ℕ) → suc j - i ≡ suc k → Tick c (front (from w i) (suc k)) ↔ Tick-from-to c w i j
 tick-part c w i j k e = (
-  (λ t. (front (from w i) (suc k),
+  (λ t. (
+    front (from w i) (suc k),
     subst (λ n. Stretch w i n (front (from w i) (suc k))) (sym e)
-      (stretch-front w i (suc k) (λ m h. place-below m k (from w i) (omega arith) (tick-place c k (from w i) t))),
-    tick-to c (front (from w i) (suc k)) t)),
+        (stretch-front w i (suc k) (λ m h. place-below m k (from w i) (omega arith) (tick-place c k (from w i) t))),
+    tick-to c (front (from w i) (suc k)) t,
+  )),
   (λ (v, s, t). subst (Tick c) (stretch-only w i (suc k) v (subst (λ n. Stretch w i n v) e s)) (tick c v .1 t)),
 )

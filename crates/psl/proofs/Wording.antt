@@ -136,5 +136,5 @@ literal-wording = record {
   weak-match = weak-match;
   next-tick = next-tick;
   aborted = aborted;
-  implied = implied
+  implied = implied;
 }

@@ -12,10 +12,13 @@ use Rattle.psl.specs.Verdict.{Verdict}
 -- the four atoms
 abbrev pub p : ℕ
 p = 0
+
 abbrev pub q : ℕ
 q = 1
+
 abbrev pub s : ℕ
 s = 2
+
 abbrev pub k : ℕ
 k = 3
 

@@ -37,26 +37,26 @@ pub record Literal-wording : Type 0 where
   pub tick : (c : Condition) (v : List Letter) → Tick c v ↔ Literal-tick c v
   -- a condition matches a tick whose last letter satisfies it
   pub last : (c b : Condition) (v : List Letter)
-    → Matches c (condition b) v ↔ ((u : List Letter) × (l : Letter) × (v ≡ u ++ (l ∷ [])) × Literal-tick c v × T (satisfies l b))
+      → Matches c (condition b) v ↔ ((u : List Letter) × (l : Letter) × (v ≡ u ++ (l ∷ [])) × Literal-tick c v × T (satisfies l b))
   -- r[*]: empty, or a non-empty match of r and a match of r[*]
   pub repeated : (c : Condition) (r : Sequence) (v : List Letter) → Matches c (star r) v
-    ↔ ((v ≡ []) ⊎ ((u w : List Letter) × (v ≡ u ++ w) × (u ≡ [] → ⊥) × Matches c r u × Matches c (star r) w))
+      ↔ ((v ≡ []) ⊎ ((u w : List Letter) × (v ≡ u ++ w) × (u ≡ [] → ⊥) × Matches c r u × Matches c (star r) w))
   -- b!: some w[0..j] is a tick of c, and letter j satisfies b
   pub strong-condition : (c b : Condition) (w : Word) → Satisfies c (strong b) w ↔ ((j : ℕ) × Tick-from-to c w 0 j × Holds (seen w j) b)
   -- b: for every j where mir(w)[0..j] is a tick of c, letter j satisfies b
   pub weak-condition : (c b : Condition) (w : Word) → Satisfies c (weak b) w ↔ ((j : ℕ) → Tick-from-to c (mir w) 0 j → Holds (seen w j) b)
   -- r!: some w[0..j] matches r
   pub strong-match : (c : Condition) (r : Sequence) (w : Word)
-    → Satisfies c (strong-sequence r) w ↔ ((j : ℕ) × (v : List Letter) × Stretch w 0 (suc j) v × Matches c r v)
+      → Satisfies c (strong-sequence r) w ↔ ((j : ℕ) × (v : List Letter) × Stretch w 0 (suc j) v × Matches c r v)
   -- r: every w[0..j] followed by endless tops satisfies r!
   pub weak-match : (c : Condition) (r : Sequence) (w : Word) → Satisfies c (weak-sequence r) w
-    ↔ ((j : ℕ) (v : List Letter) → Stretch w 0 (suc j) v → Satisfies c (strong-sequence r) (with-tops v))
+      ↔ ((j : ℕ) (v : List Letter) → Stretch w 0 (suc j) v → Satisfies c (strong-sequence r) (with-tops v))
   -- X! f: some j below k, w[0..j] and w[j+1..k] are ticks of c, and w[k..] satisfies f
   pub next-tick : (c : Condition) (f : Formula) (w : Word) → Satisfies c (next f) w
-    ↔ ((j k : ℕ) × (j < k) × Tick-from-to c w 0 j × Tick-from-to c w (suc j) k × Satisfies c f (from w k))
+      ↔ ((j k : ℕ) × (j < k) × Tick-from-to c w 0 j × Tick-from-to c w (suc j) k × Satisfies c f (from w k))
   -- f abort b: f holds of w, or of w[0..j-1] followed by endless tops, for some j where letter j satisfies b
   pub aborted : (c b : Condition) (f : Formula) (w : Word) → Satisfies c (abort f b) w
-    ↔ (Satisfies c f w ⊎ ((j : ℕ) × Holds (seen w j) b × ((v : List Letter) × Stretch w 0 j v × Satisfies c f (with-tops v))))
+      ↔ (Satisfies c f w ⊎ ((j : ℕ) × Holds (seen w j) b × ((v : List Letter) × Stretch w 0 j v × Satisfies c f (with-tops v))))
   -- r |-> f: wherever mir(w)[0..j] matches r, w[j..] satisfies f
   pub implied : (c : Condition) (r : Sequence) (f : Formula) (w : Word) → Satisfies c (implies r f) w
-    ↔ ((j : ℕ) (v : List Letter) → Stretch (mir w) 0 (suc j) v → Matches c r v → Satisfies c f (from w j))
+      ↔ ((j : ℕ) (v : List Letter) → Stretch (mir w) 0 (suc j) v → Matches c r v → Satisfies c f (from w j))

@@ -14,5 +14,4 @@ pub fn settled_verdicts() -> usize
 // No work: a call carries the theorem that the definitions say what the literal wording says.
 pub fn literal_wording()
     ensures { λ _. ⌜ Literal-wording ⌝ }
-{
-}
+{}

@@ -9,16 +9,19 @@ use Rattle.psl.specs.Syntax.{Formula, strong, strong-sequence, weak-sequence, 
 use Rattle.psl.specs.Letter.{Letter, bottom, ordinary}
 use Rattle.psl.specs.Verdict.{Verdict}
 
--- the four atoms
+-- the atom p
 abbrev pub p : ℕ
 p = 0
 
+-- the atom q
 abbrev pub q : ℕ
 q = 1
 
+-- the atom s
 abbrev pub s : ℕ
 s = 2
 
+-- the atom k
 abbrev pub k : ℕ
 k = 3
 

@@ -4,6 +4,8 @@ use mathlib.Core.List.{List, [], _∷_, _++_, append-assoc, append-nil}
 use Prim.Native.Nat.{ℕ, zero, suc, _+_, _<_}
 use native.Mathlib.Omega.{arith}
 use lib.ListN.{length, getD, take}
+use Rattle.std.specs.declared.option.Option.the-variants.{Some}
+use Rattle.std.specs.Runs.{nth}
 use Rattle.std.proofs.shelf.Lists.{getD-append-add, take-at, take-all, length-push}
 use Rattle.psl.specs.Table.{grow}
 
@@ -63,3 +65,14 @@ module _ {E T : Type 0} (build : List T → E → T) where
   -- the first k trees are those of the first k entries
   pub grow-take : (es : List E) (k : ℕ) → take k (grow build [] es) ≡ grow build [] (take k es)
   grow-take es k = ap (λ n. take n (grow build [] es)) (omega arith) ∙ take-grow [] es k
+
+  nth-rest : (acc : List T) (es : List E) (k : ℕ) (t : T) → nth (rest acc es) k ≡ Some t
+      → (e : E) × (nth es k ≡ Some e) × (t ≡ build (grow build acc (take k es)) e)
+  nth-rest acc [] k t is = let wrong : _≡_ {A = ℕ} 0 1 = cc in absurd (omega arith)
+  nth-rest acc (e ∷ es) zero t is = (e, refl, cc)
+  nth-rest acc (e ∷ es) (suc k) t is = nth-rest (acc ++ (build acc e ∷ [])) es k t is
+
+  -- the tree at a place is built from the entry there, over the trees of the entries before it
+  pub grow-nth : (es : List E) (k : ℕ) (t : T) → nth (grow build [] es) k ≡ Some t
+      → (e : E) × (nth es k ≡ Some e) × (t ≡ build (grow build [] (take k es)) e)
+  grow-nth es k t is = nth-rest [] es k t (ap (λ ts. nth ts k) (sym (grow-is [] es)) ∙ is)

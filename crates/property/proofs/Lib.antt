@@ -1,0 +1,7 @@
+pub mod Entries
+pub mod Sizes
+pub mod FirstSection
+pub mod WholeFile
+pub mod Known
+pub mod Held
+pub mod Writing

@@ -1,0 +1,16 @@
+// The property place, which always holds an accepted property.
+ghost use mathlib.Core.Path.{_≡_};
+ghost use mathlib.Core.Bool.{true};
+ghost use Rattle.property.specs.Accepted.{accepted, Measured, Long};
+use crate::tables::Tables;
+
+mod calls;
+
+// A property that was read and accepted, or that of a new place.
+#[derive(Clone, Copy)]
+pub struct Property {
+    tables: Tables,
+    ghost accepts: { accepted tables ≡ true },
+    ghost long: { Long tables },
+    ghost measured: { Measured tables },
+}

@@ -15,12 +15,12 @@ use Rattle.psl.specs.declared.entry.Condition.{Condition}
 use Rattle.psl.specs.declared.entry.Sequence.{Sequence}
 use Rattle.psl.specs.declared.entry.Formula.{Formula}
 use Rattle.property.specs.declared.place.Property.{Property}
-use Rattle.property.specs.Operands.{condition-names, sequence-names, formula-names}
-use Rattle.property.specs.Rules.{condition-rules, sequence-rules, formula-rules}
-use Rattle.property.specs.Sizes.{sizes, size-over}
+use Rattle.file.specs.Operands.{condition-names, sequence-names, formula-names}
+use Rattle.file.specs.Rules.{condition-rules, sequence-rules, formula-rules}
+use Rattle.file.specs.Sizes.{sizes, size-over}
 use Rattle.property.specs.Place.{conditions-of, sequences-of, formulas-of}
 use Rattle.property.proofs.Known.{Limits, limits, inspected-at, before-length, conditions-inspected, sequences-inspected, formulas-inspected}
-use Rattle.property.proofs.Sizes.{length-sizes, sizes-nth}
+use Rattle.file.proofs.Sizes.{length-sizes, sizes-nth}
 
 -- what holds of each value that is found holds of what is looked up
 pub when-found : {X : Type 0} (P : X → Type 0) (found r : Option X) → r ≡ found → ((x : X) → found ≡ Some x → P x) → Cases r (Unit {0}) P

@@ -9,9 +9,9 @@ use Rattle.std.proofs.shelf.Lists.{length-take-le}
 use Rattle.std.proofs.shelf.Tests.{and-parts, leb-true}
 use Rattle.std.specs.declared.option.Option.the-variants.{Some, None}
 use Rattle.std.specs.Runs.{nth}
-use Rattle.property.specs.declared.tables.Tables.{Tables}
-use Rattle.property.specs.Rules.{Rules, condition-rules, sequence-rules, formula-rules}
-use Rattle.property.specs.Accepted.{all-yes, inspected, accepted, within-limits, conditions-used, sequences-used, formulas-used}
+use Rattle.file.specs.declared.tables.Tables.{Tables}
+use Rattle.file.specs.Rules.{Rules, condition-rules, sequence-rules, formula-rules}
+use Rattle.file.specs.Accepted.{all-yes, inspected, accepted, within-limits, conditions-used, sequences-used, formulas-used}
 
 -- entry k gets only yes, after the entries before it
 pub inspected-at : {E : Type 0} (rules : Rules E) (before es : List E) (k : ℕ) (e : E) → nth es k ≡ Some e → inspected rules before es ≡ true
@@ -52,12 +52,12 @@ module _ (t : Tables) (ok : accepted t ≡ true) where
       let a = and-parts _ _ (both .0) in
       let b = and-parts _ _ (both .1) in
       let c = and-parts _ _ (b .1) in
-      record
-      { some-conditions = leb-true 1 _ (a .0)
-      ; few-conditions = leb-true _ 64 (a .1)
-      ; few-sequences = leb-true _ 64 (b .0)
-      ; some-formulas = leb-true 1 _ (c .0)
-      ; few-formulas = leb-true _ 64 (c .1)
+      record {
+        some-conditions = leb-true 1 _ (a .0);
+        few-conditions = leb-true _ 64 (a .1);
+        few-sequences = leb-true _ 64 (b .0);
+        some-formulas = leb-true 1 _ (c .0);
+        few-formulas = leb-true _ 64 (c .1);
       }
 
   pub conditions-inspected : inspected condition-rules [] (conditions-used t) ≡ true

@@ -1,7 +1,3 @@
-pub mod Entries
-pub mod Sizes
-pub mod FirstSection
-pub mod WholeFile
 pub mod Known
 pub mod Held
-pub mod Writing
+pub mod Trees

@@ -1,10 +1,1 @@
-pub mod Refusals
-pub mod Kinds
-pub mod Operands
-pub mod Sizes
-pub mod Rules
-pub mod File
-pub mod Layout
-pub mod Filling
-pub mod Accepted
 pub mod Place

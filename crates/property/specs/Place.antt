@@ -1,19 +1,16 @@
 -- What a property place holds: the entries of an accepted property.
-use mathlib.Core.Bool.{true}
 use mathlib.Core.List.{List}
 use mathlib.Core.Path.{_≡_}
-use Prim.Native.Nat.{ℕ}
-use lib.ListN.{length}
-use Rattle.std.specs.declared.option.Option.{Option}
-use Rattle.std.specs.Options.{Cases}
-use Rattle.std.specs.Runs.{nth}
+use Prim.Native.Nat.{ℕ, _-_}
+use lib.ListN.{length, getD}
+use Rattle.psl.specs.Syntax as tree
+use Rattle.psl.specs.Table.{conditions, sequences, formulas, nothing}
 use Rattle.psl.specs.declared.entry.Condition.{Condition}
 use Rattle.psl.specs.declared.entry.Sequence.{Sequence}
 use Rattle.psl.specs.declared.entry.Formula.{Formula}
 use Rattle.property.specs.declared.place.Property.{Property}
-use Rattle.property.specs.Operands.{condition-names, sequence-names, formula-names}
-use Rattle.property.specs.Accepted.{conditions-used, sequences-used, formulas-used}
-use Rattle.property.specs.File.{conditions-in, sequences-in, formulas-in}
+use Rattle.file.specs.Accepted.{conditions-used, sequences-used, formulas-used}
+use Rattle.file.specs.File.{conditions-in, sequences-in, formulas-in}
 
 unfoldable pub conditions-of : Property → List Condition
 conditions-of p = conditions-used (p .tables)
@@ -23,6 +20,20 @@ sequences-of p = sequences-used (p .tables)
 
 unfoldable pub formulas-of : Property → List Formula
 formulas-of p = formulas-used (p .tables)
+
+-- the trees that the entries denote
+unfoldable pub condition-trees : Property → List tree.Condition
+condition-trees p = conditions (conditions-of p)
+
+unfoldable pub sequence-trees : Property → List tree.Sequence
+sequence-trees p = sequences (condition-trees p) (sequences-of p)
+
+unfoldable pub formula-trees : Property → List tree.Formula
+formula-trees p = formulas (condition-trees p) (sequence-trees p) (formulas-of p)
+
+-- the property itself: the tree of the last formula
+unfoldable pub property-tree : Property → tree.Formula
+property-tree p = getD (formula-trees p) (length (formulas-of p) - 1) nothing
 
 -- the place holds the property that the file spells
 pub record Holds-file (bytes : List ℕ) (p : Property) : Type 0 where

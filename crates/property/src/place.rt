@@ -1,8 +1,8 @@
 // The property place, which always holds an accepted property.
 ghost use mathlib.Core.Path.{_≡_};
 ghost use mathlib.Core.Bool.{true};
-ghost use Rattle.property.specs.Accepted.{accepted, Measured, Long};
-use crate::tables::Tables;
+ghost use Rattle.file.specs.Accepted.{accepted, Measured, Long};
+use file::tables::Tables;
 
 mod calls;
 

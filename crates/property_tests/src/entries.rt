@@ -1,13 +1,13 @@
 // Each question to an entry, in each section where it can get a no.
 use crate::files::ACCEPTED;
+use crate::files::ON_TRUE;
 use crate::files::Outcome;
 use crate::files::OutcomeDebug;
 use crate::files::OutcomePartialEq;
 use crate::files::Row;
-use crate::files::sections;
-use crate::files::ON_TRUE;
 use crate::files::TRUE;
 use crate::files::WEAK;
+use crate::files::sections;
 use std::test::*;
 
 // A second condition, at offset 7.
@@ -82,7 +82,10 @@ fn sequences(rt: LibcRuntime) -> Result<(), Fail> {
         ([7, 0, 0, 0, 1], Outcome(6, 2, 14)),
     ];
     for (row, expected) in table {
-        check_eq(sections(rt.alloc(), &[TRUE], &[ON_TRUE, row], &[WEAK])?, expected)?;
+        check_eq(
+            sections(rt.alloc(), &[TRUE], &[ON_TRUE, row], &[WEAK])?,
+            expected,
+        )?;
     }
     Ok(())
 }
@@ -127,7 +130,10 @@ fn formulas(rt: LibcRuntime) -> Result<(), Fail> {
         ([10, 0, 0, 0, 1], Outcome(6, 3, 21)),
     ];
     for (row, expected) in table {
-        check_eq(sections(rt.alloc(), &[TRUE], &[ON_TRUE], &[WEAK, row])?, expected)?;
+        check_eq(
+            sections(rt.alloc(), &[TRUE], &[ON_TRUE], &[WEAK, row])?,
+            expected,
+        )?;
     }
     Ok(())
 }
@@ -137,8 +143,20 @@ fn formulas(rt: LibcRuntime) -> Result<(), Fail> {
 fn first_fault(rt: LibcRuntime) -> Result<(), Fail> {
     let bad: Row = [99, 0, 0, 0, 0];
     let atom: Row = [2, 0, 0, 0, 0];
-    check_eq(sections(rt.alloc(), &[atom, bad], &[bad], &[bad])?, Outcome(7, 1, 2))?;
-    check_eq(sections(rt.alloc(), &[TRUE, bad], &[bad], &[bad])?, Outcome(5, 1, 7))?;
-    check_eq(sections(rt.alloc(), &[TRUE, atom], &[bad], &[bad])?, Outcome(5, 2, 14))?;
-    check_eq(sections(rt.alloc(), &[TRUE, atom], &[], &[WEAK, bad])?, Outcome(5, 3, 21))
+    check_eq(
+        sections(rt.alloc(), &[atom, bad], &[bad], &[bad])?,
+        Outcome(7, 1, 2),
+    )?;
+    check_eq(
+        sections(rt.alloc(), &[TRUE, bad], &[bad], &[bad])?,
+        Outcome(5, 1, 7),
+    )?;
+    check_eq(
+        sections(rt.alloc(), &[TRUE, atom], &[bad], &[bad])?,
+        Outcome(5, 2, 14),
+    )?;
+    check_eq(
+        sections(rt.alloc(), &[TRUE, atom], &[], &[WEAK, bad])?,
+        Outcome(5, 3, 21),
+    )
 }

@@ -8,7 +8,9 @@ pub type Row = [u8; 5];
 
 // The condition true, the sequence on condition 0, and the weak formula on it.
 pub const TRUE: Row = [0, 0, 0, 0, 0];
+
 pub const ON_TRUE: Row = [0, 0, 0, 0, 0];
+
 pub const WEAK: Row = [1, 0, 0, 0, 0];
 
 fn section(file: &mut Vec<u8>, rows: &[Row]) -> Result<(), AllocError> {
@@ -22,7 +24,12 @@ fn section(file: &mut Vec<u8>, rows: &[Row]) -> Result<(), AllocError> {
 }
 
 // The file with these sections, each after its count.
-fn file(heap: Global, conditions: &[Row], sequences: &[Row], formulas: &[Row]) -> Result<Vec<u8>, AllocError> {
+fn file(
+    heap: Global,
+    conditions: &[Row],
+    sequences: &[Row],
+    formulas: &[Row],
+) -> Result<Vec<u8>, AllocError> {
     let mut bytes = Vec::new(heap);
     section(&mut bytes, conditions)?;
     section(&mut bytes, sequences)?;
@@ -36,16 +43,25 @@ pub struct Outcome(pub u8, pub u8, pub usize);
 
 pub const ACCEPTED: Outcome = Outcome(0, 0, 0);
 
-pub fn reading(bytes: &[u8]) -> Outcome {
+pub(crate) fn reading(bytes: &[u8]) -> Outcome {
     let mut property = Property::new();
     match property.read(bytes) {
         Ok(_) => ACCEPTED,
-        Err(refusal) => Outcome(refusal.reason.number(), refusal.section.number(), refusal.offset),
+        Err(refusal) => Outcome(
+            refusal.reason.number(),
+            refusal.section.number(),
+            refusal.offset,
+        ),
     }
 }
 
 // What comes of reading the file with these sections.
-pub fn sections(heap: Global, conditions: &[Row], sequences: &[Row], formulas: &[Row]) -> Result<Outcome, AllocError> {
+pub(crate) fn sections(
+    heap: Global,
+    conditions: &[Row],
+    sequences: &[Row],
+    formulas: &[Row],
+) -> Result<Outcome, AllocError> {
     let bytes = file(heap, conditions, sequences, formulas)?;
     Ok(reading(&bytes))
 }

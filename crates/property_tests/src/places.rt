@@ -6,7 +6,39 @@ use psl::entry::Sequence;
 use std::test::*;
 
 // A condition true, an atom 5, the sequence on it, and r |-> f with its repetition.
-const FILE: [u8; 31] = [0, 2, 0, 0, 0, 0, 0, 2, 0, 5, 0, 0, 0, 1, 0, 0, 1, 0, 0, 0, 2, 0, 0, 1, 0, 0, 9, 0, 0, 0, 0];
+const FILE: [u8; 31] = [
+    0,
+    2,
+    0,
+    0,
+    0,
+    0,
+    0,
+    2,
+    0,
+    5,
+    0,
+    0,
+    0,
+    1,
+    0,
+    0,
+    1,
+    0,
+    0,
+    0,
+    2,
+    0,
+    0,
+    1,
+    0,
+    0,
+    9,
+    0,
+    0,
+    0,
+    0,
+];
 
 #[test]
 fn a_new_place() -> Result<(), Fail> {

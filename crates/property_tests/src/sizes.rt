@@ -4,14 +4,21 @@ use crate::files::Outcome;
 use crate::files::OutcomeDebug;
 use crate::files::OutcomePartialEq;
 use crate::files::Row;
-use crate::files::sections;
 use crate::files::TRUE;
 use crate::files::WEAK;
+use crate::files::sections;
 use std::test::*;
 
 // Sequences of the sizes 2, 4, 6, 10, 24, 240 and 0.
-const MADE: [Row; 7] =
-    [[0, 0, 0, 0, 0], [1, 0, 0, 0, 0], [3, 0, 1, 0, 0], [1, 0, 1, 0, 2], [4, 0, 1, 0, 2], [4, 0, 4, 0, 3], [5, 0, 0, 0, 0]];
+const MADE: [Row; 7] = [
+    [0, 0, 0, 0, 0],
+    [1, 0, 0, 0, 0],
+    [3, 0, 1, 0, 0],
+    [1, 0, 1, 0, 2],
+    [4, 0, 1, 0, 2],
+    [4, 0, 4, 0, 3],
+    [5, 0, 0, 0, 0],
+];
 
 // One more sequence over those, at offset 44.
 #[test]
@@ -31,7 +38,10 @@ fn sizes(rt: LibcRuntime) -> Result<(), Fail> {
     ];
     for (row, expected) in table {
         let [a, b, c, d, e, f, g] = MADE;
-        check_eq(sections(rt.alloc(), &[TRUE], &[a, b, c, d, e, f, g, row], &[WEAK])?, expected)?;
+        check_eq(
+            sections(rt.alloc(), &[TRUE], &[a, b, c, d, e, f, g, row], &[WEAK])?,
+            expected,
+        )?;
     }
     Ok(())
 }

@@ -11,10 +11,10 @@ use Rattle.std.specs.Written.{decimal}
 use Rattle.answer.specs.Questions.{first-no}
 use Rattle.psl.specs.declared.entry.Formula.{Formula}
 use Rattle.psl.specs.declared.entry.Formula.the-variants.{Strong, Weak, StrongSequence, WeakSequence, Not, And, Next, Until, Abort, Implies, At}
-use Rattle.property.specs.declared.refusal.Refusal.{Refusal}
+use Rattle.file.specs.declared.refusal.Refusal.{Refusal}
 use Rattle.property.specs.declared.place.Property.{Property}
-use Rattle.property.specs.Refusals.{reason-number, section-number}
-use Rattle.property.specs.File.{questions}
+use Rattle.file.specs.Refusals.{reason-number, section-number}
+use Rattle.file.specs.File.{questions}
 use Rattle.property.specs.Place.{conditions-of, sequences-of, formulas-of, Holds-file}
 
 -- the operator of a formula, over b, c for conditions, r for a sequence, f, g for formulas

@@ -3,8 +3,8 @@ ghost use mathlib.Core.Path.{_≡_};
 ghost use Rattle.std.specs.Of.String.{string-bytes};
 ghost use Rattle.std.specs.Vec.{made};
 ghost use Rattle.watch.specs.Lines.{operator as operator-of, numbers-line, refused-line, counts-line, Accepted-line, Line-of};
+use file::refusal::Refusal;
 use property::place::Property;
-use property::refusal::Refusal;
 use psl::entry::Formula;
 use std::alloc::AllocError;
 use std::alloc::Global;
@@ -37,20 +37,40 @@ fn write_numbers(heap: Global, number: u8, section: u8, offset: usize) -> Result
 fn write_refusal(heap: Global, refusal: Refusal) -> Result<String, AllocError>
     ensures { λ r. ⌜ made r (λ s. string-bytes s ≡ refused-line refusal) ⌝ }
 {
-    write_numbers(heap, refusal.reason.number(), refusal.section.number(), refusal.offset)
+    write_numbers(
+        heap,
+        refusal.reason.number(),
+        refusal.section.number(),
+        refusal.offset,
+    )
 }
 
-fn write_counts(heap: Global, conditions: usize, sequences: usize, formulas: usize, operator: &str) -> Result<String, AllocError>
+fn write_counts(
+    heap: Global,
+    conditions: usize,
+    sequences: usize,
+    formulas: usize,
+    operator: &str,
+) -> Result<String, AllocError>
     ensures { λ r. ⌜ made r (λ s. string-bytes s ≡ counts-line conditions sequences formulas (now (operator .entry))) ⌝ }
 {
-    format!(heap, "conditions {conditions}, sequences {sequences}, formulas {formulas}, property {operator}")
+    format!(
+        heap,
+        "conditions {conditions}, sequences {sequences}, formulas {formulas}, property {operator}"
+    )
 }
 
 fn write_property(heap: Global, property: &Property) -> Result<String, AllocError>
     ensures { λ r. ⌜ made r (λ s. Accepted-line (now (property .entry)) (string-bytes s)) ⌝ }
 {
     let operator = operator_text(property.root());
-    write_counts(heap, property.condition_count(), property.sequence_count(), property.formula_count(), operator)
+    write_counts(
+        heap,
+        property.condition_count(),
+        property.sequence_count(),
+        property.formula_count(),
+        operator,
+    )
 }
 
 // The line for a file of these bytes; only want of memory leaves it out.

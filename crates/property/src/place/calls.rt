@@ -1,27 +1,28 @@
 // What a property place is asked.
 ghost use mathlib.Core.Path.{_≡_};
 ghost use mathlib.Core.Bool.{true};
-ghost use mathlib.Core.List.{[], _∷_};
+ghost use mathlib.Core.List.{[], _∷_, map};
 ghost use Prim.Native.Nat.{_-_, _≤_};
 ghost use lib.ListN.{length, take};
 ghost use Rattle.std.specs.Options.{Cases};
 ghost use Rattle.std.specs.Runs.{nth};
 ghost use Rattle.std.specs.declared.option.Option.the-variants.{Some};
 ghost use Rattle.answer.specs.Questions.{Call};
+ghost use Rattle.psl.specs.Table.{size};
 ghost use Rattle.psl.specs.declared.entry.Condition.the-variants.{True};
 ghost use Rattle.psl.specs.declared.entry.Formula.the-variants.{Weak};
-ghost use Rattle.property.specs.Operands.{condition-names, sequence-names, formula-names};
-ghost use Rattle.property.specs.Sizes.{sizes as sizes-of};
-ghost use Rattle.property.specs.File.{questions};
-ghost use Rattle.property.specs.Place.{conditions-of, sequences-of, formulas-of, Holds-file};
+ghost use Rattle.file.specs.Operands.{condition-names, sequence-names, formula-names};
+ghost use Rattle.file.specs.Sizes.{sizes as sizes-of};
+ghost use Rattle.file.specs.File.{questions};
+ghost use Rattle.property.specs.Place.{conditions-of, sequences-of, formulas-of, sequence-trees, Holds-file};
+use crate::place::Property;
+use file::read::read_tables;
+use file::refusal::Refusal;
+use file::tables::Counts;
+use file::tables::Tables;
 use psl::entry::Condition;
 use psl::entry::Formula;
 use psl::entry::Sequence;
-use crate::place::Property;
-use crate::reader::read_tables;
-use crate::refusal::Refusal;
-use crate::tables::Counts;
-use crate::tables::Tables;
 
 // Row `i` of a table of which the first `count` rows are in use.
 fn row<E: Copy>(table: &[E], count: usize, i: usize) -> Option<E>
@@ -40,7 +41,11 @@ impl Property {
     {
         Property {
             tables: Tables {
-                counts: Counts { conditions: 1, sequences: 0, formulas: 1 },
+                counts: Counts {
+                    conditions: 1,
+                    sequences: 0,
+                    formulas: 1,
+                },
                 conditions: [Condition::True; 64],
                 sequences: [Sequence::Empty; 64],
                 sizes: [0; 64],
@@ -96,9 +101,10 @@ impl Property {
         row(&self.tables.sequences, self.tables.counts.sequences, i)
     }
 
-    // The size of sequence `i`.
+    // The size of sequence `i`: of its entry, and of the tree that it denotes.
     pub fn sequence_size(&self, i: usize) -> Option<u16>
         ensures value { λ r. ⌜ r ≡ nth (sizes-of (sequences-of (now (self .entry)))) i ⌝ }
+        ensures tree { λ r. ⌜ r ≡ nth (map size (sequence-trees (now (self .entry)))) i ⌝ }
         ensures high_bound { λ r. ⌜ Cases r (Unit {0}) (λ z. z ≤ 240) ⌝ }
     {
         row(&self.tables.sizes, self.tables.counts.sequences, i)

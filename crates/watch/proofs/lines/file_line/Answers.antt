@@ -8,7 +8,7 @@ use Rattle.std.specs.Vec.{made}
 use Rattle.std.specs.Of.String.{string-bytes}
 use Rattle.answer.specs.Questions.{first-no}
 use Rattle.property.specs.declared.place.Property.{Property}
-use Rattle.property.specs.File.{questions}
+use Rattle.file.specs.File.{questions}
 use Rattle.property.specs.Place.{Holds-file}
 use Rattle.watch.specs.Lines.{Accepted-line, Line-after, Line-of}
 use Rattle.watch.proofs.lines.file_line.Needs as need

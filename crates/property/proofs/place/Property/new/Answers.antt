@@ -1,7 +1,7 @@
 use mathlib.Core.Path.{refl}
 use borrow.Author.Needs.{needs}
-use Rattle.property.specs.Sizes.{sizes}
-use Rattle.property.specs.Accepted.{accepted}
+use Rattle.file.specs.Sizes.{sizes}
+use Rattle.file.specs.Accepted.{accepted}
 use Rattle.property.specs.Place.{conditions-of, sequences-of, formulas-of}
 use Rattle.property.proofs.place.Property.new.Needs as need
 

@@ -1,2 +1,5 @@
 pub mod Asked
 pub mod Places
+pub mod Slices
+pub mod Tally
+pub mod Pushes

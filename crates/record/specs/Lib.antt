@@ -1,3 +1,4 @@
 pub mod Refusals
 pub mod Recorded
 pub mod Rows
+pub mod Runs

@@ -3,4 +3,6 @@ pub mod flat;
 pub mod record;
 pub mod refusal;
 mod rows;
+pub mod run;
+pub mod runs;
 pub mod twice;

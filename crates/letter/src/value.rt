@@ -13,7 +13,7 @@ pub enum Value {
 
 impl Value {
     // Whether the wire's atom is satisfied.
-    pub fn satisfies(self) -> bool
+    pub(crate) fn satisfies(self) -> bool
         ensures value { λ r. ⌜ r ≡ satisfied self ⌝ }
     {
         match self {
@@ -24,7 +24,7 @@ impl Value {
         }
     }
 
-    pub fn mirror(self) -> Value
+    pub(crate) fn mirror(self) -> Value
         ensures value { λ r. ⌜ r ≡ swapped self ⌝ }
     {
         match self {

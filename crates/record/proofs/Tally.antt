@@ -110,7 +110,7 @@ module _ {L : Type 0} (eq : L → L → Bool) where
         (ap (λ b. cond b rest (suc rest)) new ∙ ap suc (goes-on k x ys), goes-last k x ys)
 
     -- the rows are as many as the stretches of their letters, and end in the last letter
-    rows-told : (rs : List (Run L)) (before : Option (Full L)) (sum n : ℕ) → tally eq before sum rs ≡ Some n
+    pub rows-told : (rs : List (Run L)) (before : Option (Full L)) (sum n : ℕ) → tally eq before sum rs ≡ Some n
         → (stretches eq before (spread rs) ≡ length rs) × (last-letter before (spread rs) ≡ last-row before rs)
     rows-told [] before sum n e = (refl, refl)
     rows-told (r ∷ rs) before sum n e =

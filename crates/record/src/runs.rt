@@ -1,7 +1,8 @@
 // The run record: a row for each stretch of same letters.
 ghost use mathlib.Core.Path.{_≡_};
 ghost use denote.Ref.{now as held};
-ghost use Rattle.record.specs.Runs.{run-content};
+ghost use Rattle.std.specs.declared.option.Option.the-variants.{None};
+ghost use Rattle.record.specs.Runs.{run-content, stretches as stretches-of};
 use crate::record::Record;
 use crate::refusal::Refusal;
 use crate::run::Run;
@@ -33,6 +34,15 @@ impl<'a, K: Kind> Runs<'a, K> {
         ensures made { λ r. ⌜ run-content (K·Kind .equals) (r .used) (held (r .rows)) ≡ run-content (K·Kind .equals) used (now (rows .entry)) ⌝ }
     {
         Runs { rows, used }
+    }
+
+    // The number of stretches of same letters, which are the rows in use: what to hand over to `resume` with the rows.
+    pub fn stretches(&mut self) -> usize
+        ensures value { λ r. ⌜ r ≡ stretches-of (K·Kind .equals) None (run-content (K·Kind .equals) (now (self .entry) .used) (held (now (self .entry) .rows)) .letters) ⌝ }
+        ensures same { λ _. ⌜ now (self .exit) ≡ now (self .entry) ⌝ }
+    {
+        let used = self.used;
+        count_rows(self.rows, used).rows
     }
 }
 

@@ -1,17 +1,14 @@
 -- Rows read by place under a map.
-use mathlib.Core.Path.{_≡_, refl, sym, ap, _∙_}
+use mathlib.Core.Path.{_≡_, refl, ap, _∙_}
 use mathlib.Core.List.{List, [], _∷_, map}
-use mathlib.Core.Logic.{⊎-elim}
-use Prim.Native.Nat.{ℕ, zero, suc, min, _<_}
+use Prim.Native.Nat.{ℕ, zero, suc, _<_}
 use native.Mathlib.Omega.{arith}
 use lib.ListN.{length, take, getD, length-take}
 use lib.Seq.{getD-take}
 use Rattle.std.specs.shelf.Maps.{nth}
 use Rattle.std.specs.declared.option.Option.{Option}
 use Rattle.std.specs.declared.option.Option.the-variants.{Some, None}
-use Rattle.std.proofs.shelf.Lists.{take-all}
 use Rattle.std.proofs.shelf.Maps.{nth-getD}
-use Rattle.std.proofs.shelf.Tests.{cases-lt}
 
 abbrev mapped : {X Y : Type 0} → (X → Y) → Option X → Option Y
 mapped f None = None
@@ -26,11 +23,3 @@ pub nth-map-take : {X Y : Type 0} (f : X → Y) (xs : List X) (n i : ℕ) (d : X
 nth-map-take f xs n i d few within =
     let inside : i < length (take n xs) = simp length-take (omega arith) in
     nth-map f (take n xs) i ∙ ap (mapped f) (nth-getD (take n xs) i d inside ∙ ap Some (getD-take n xs i d few))
-
--- a number of rows that is cut to those there are
-pub cut-take : {X : Type 0} (xs : List X) (n m : ℕ) → m ≡ min n (length xs) → take m xs ≡ take n xs
-cut-take xs n m is =
-    ⊎-elim
-    (λ h. ap (λ k. take k xs) (omega arith))
-    (λ h. take-all m xs (omega arith) ∙ sym (take-all n xs h))
-    (cases-lt n (length xs))

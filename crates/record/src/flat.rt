@@ -44,7 +44,8 @@ pub impl<'a, K: Kind> Record for Flat<'a, K> as FlatRecord {
     }
 
     fn letter(&mut self, place: usize) -> Result<Tagged<K>, Refusal> {
-        let count = cut(self.count, MOST_LETTERS, self.rows.len());
+        let rows = self.rows.len();
+        let count = cut(self.count, MOST_LETTERS, rows);
         if place < count {
             Ok(self.rows[place])
         } else {

@@ -1,8 +1,6 @@
-// Records of letters: what the interface promises, the flat record, the run record, and what any record can do.
+// Records of letters: what the interface promises, the flat record, and what any record can do.
 pub mod flat;
 pub mod record;
 pub mod refusal;
-mod rows;
-pub mod run;
-pub mod runs;
+pub mod rows;
 pub mod twice;

@@ -3,7 +3,7 @@ ghost use mathlib.Core.Path.{_≡_};
 ghost use Prim.Native.Nat.{ℕ, min};
 
 // The number of rows in use, cut to the most that a record uses and to those there are.
-pub(crate) fn cut(used: usize, most: usize, rows: usize) -> usize
+pub fn cut(used: usize, most: usize, rows: usize) -> usize
     ensures value { λ r. ⌜ r ≡ min (min used most) rows ⌝ }
 {
     let few = if used < most { used } else { most };

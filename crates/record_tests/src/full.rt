@@ -8,10 +8,10 @@ use letter::wire::WireKind;
 use record::flat::Flat;
 use record::flat::FlatRecord;
 use record::record::Record;
-use record::run::Run;
-use record::run::RunClone;
-use record::runs::RunRecord;
-use record::runs::Runs;
+use run_record::run::Run;
+use run_record::run::RunClone;
+use run_record::runs::RunRecord;
+use run_record::runs::Runs;
 use std::test::*;
 
 // The letters that each test adds: six letters in four stretches.

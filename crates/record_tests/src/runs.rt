@@ -7,10 +7,10 @@ use letter::wire::Wire;
 use letter::wire::WireKind;
 use record::record::Record;
 use record::refusal::Refusal;
-use record::run::Run;
-use record::run::RunClone;
-use record::runs::RunRecord;
-use record::runs::Runs;
+use run_record::run::Run;
+use run_record::run::RunClone;
+use run_record::runs::RunRecord;
+use run_record::runs::Runs;
 use std::test::*;
 
 // A stretch of ordinary letters.

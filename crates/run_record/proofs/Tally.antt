@@ -18,6 +18,9 @@ use Rattle.run_record.specs.Runs.{letter-of, spread, continues, tally, stretch
 abbrev pub longer : {L : Type 0} → Run L → Run L
 longer r = record { letter = r .letter; length = r .length + 1 }
 
+never : {A : Type 0} → false ≡ true → A
+never e = let no-way : _≡_ {A = ℕ} 0 1 = cc in absurd (omega arith)
+
 cond-some : {A : Type 0} (b : Bool) (y : Option A) (n : A) → cond b None y ≡ Some n → (b ≡ false) × (y ≡ Some n)
 cond-some true y n e = let no-way : _≡_ {A = ℕ} 0 1 = cc in absurd (omega arith)
 cond-some false y n e = (refl, e)
@@ -104,7 +107,7 @@ module _ {L : Type 0} (eq : L → L → Bool) where
 
     one-row : (before : Option (Full L)) (k : ℕ) (x : Full L) (ys : List (Full L)) → eqb k 0 ≡ false → continues eq before x ≡ false
         → (stretches eq before (replicate k x ++ ys) ≡ suc (stretches eq (Some x) ys)) × (last-letter before (replicate k x ++ ys) ≡ last-letter (Some x) ys)
-    one-row before zero x ys some new = let no-way : _≡_ {A = ℕ} 0 1 = cc in absurd (omega arith)
+    one-row before zero x ys some new = never (sym some)
     one-row before (suc k) x ys some new =
         let rest = stretches eq (Some x) (replicate k x ++ ys) in
         (ap (λ b. cond b rest (suc rest)) new ∙ ap suc (goes-on k x ys), goes-last k x ys)
@@ -133,9 +136,9 @@ module _ {L : Type 0} (eq : L → L → Bool) where
   same-told decided top top e = refl
   same-told decided bottom bottom e = refl
   same-told decided (ordinary x) (ordinary y) e = ap ordinary (decided x y .0 e)
-  same-told decided top bottom e = let no-way : _≡_ {A = ℕ} 0 1 = cc in absurd (omega arith)
-  same-told decided top (ordinary y) e = let no-way : _≡_ {A = ℕ} 0 1 = cc in absurd (omega arith)
-  same-told decided bottom top e = let no-way : _≡_ {A = ℕ} 0 1 = cc in absurd (omega arith)
-  same-told decided bottom (ordinary y) e = let no-way : _≡_ {A = ℕ} 0 1 = cc in absurd (omega arith)
-  same-told decided (ordinary x) top e = let no-way : _≡_ {A = ℕ} 0 1 = cc in absurd (omega arith)
-  same-told decided (ordinary x) bottom e = let no-way : _≡_ {A = ℕ} 0 1 = cc in absurd (omega arith)
+  same-told decided top bottom e = never e
+  same-told decided top (ordinary y) e = never e
+  same-told decided bottom top e = never e
+  same-told decided bottom (ordinary y) e = never e
+  same-told decided (ordinary x) top e = never e
+  same-told decided (ordinary x) bottom e = never e

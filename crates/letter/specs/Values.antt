@@ -5,14 +5,14 @@ use Rattle.letter.specs.Bit.{bit}
 use Rattle.letter.specs.declared.value.Value.{Value}
 use Rattle.letter.specs.declared.value.Value.the-variants.{Zero, One, X, Y}
 
--- 1 and y satisfy the wire's atom
+-- whether a wire with this value satisfies its atom
 abbrev pub satisfied : Value → Bool
 satisfied Zero = false
 satisfied One = true
 satisfied X = false
 satisfied Y = true
 
--- the mirror swaps x and y only
+-- the value in the mirror: x and y trade places
 abbrev pub swapped : Value → Value
 swapped Zero = Zero
 swapped One = One

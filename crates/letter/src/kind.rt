@@ -5,7 +5,7 @@ ghost use Prim.Native.Nat.{ℕ, _≤_};
 ghost use Rattle.std.specs.Orderings.{Decides};
 ghost use Rattle.letter.specs.Meaning.{meaning};
 
-// A kind of ordinary letters. A letter means the set of atoms that it satisfies and the set that its mirror satisfies.
+// A kind of ordinary letters. All that counts of a letter are two sets of atoms, its own and its mirror's.
 pub trait Kind: Copy {
     // The number of atoms, 1 to 32.
     const ATOMS: u8;
@@ -22,15 +22,15 @@ pub trait Kind: Copy {
 
     law few: { (1 ≤ number) × (number ≤ 32) };
 
-    // No letter satisfies an atom from the kind's number on.
+    // The atoms of a letter are below the kind's number.
     law beyond: { (x : Self) (n : ℕ) → number ≤ n → atoms x n ≡ false };
 
     law twice: { (x : Self) → mirrored (mirrored x) ≡ x };
 
-    // Two letters are the same exactly when their meanings are equal,
+    // `same` tells whether two letters have one meaning,
     law told: { (x y : Self) → Decides (equals x y) (meaning atoms mirrored x ≡ meaning atoms mirrored y) };
 
-    // and then they are one value.
+    // and letters with one meaning are one value.
     law decided: { (x y : Self) → Decides (equals x y) (x ≡ y) };
 
     fn number_of_atoms() -> u8

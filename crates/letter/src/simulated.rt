@@ -62,7 +62,7 @@ pub impl Kind for Simulated as SimulatedKind {
         bits::has(self.own, atom)
     }
 
-    // The mirror swaps x and y only.
+    // x and y trade places on every wire.
     fn mirror(&self) -> Simulated
         ensures value { λ r. ⌜ r ≡ record { own = now (self .entry) .other; other = now (self .entry) .own; short = (now (self .entry) .short .1, now (self .entry) .short .0) } ⌝ }
         ensures items { λ r. ⌜ ((n : ℕ) → value-at (r .own) (r .other) n ≡ swapped (value-at (now (self .entry) .own) (now (self .entry) .other) n)) ⌝ }

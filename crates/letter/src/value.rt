@@ -2,7 +2,7 @@
 ghost use mathlib.Core.Path.{_≡_};
 ghost use Rattle.letter.specs.Values.{satisfied, swapped, value-by};
 
-// 1 and y satisfy the wire's atom, 0 and x do not; the mirror swaps x and y only.
+// A wire at 1 or y satisfies its atom. In the mirror x and y trade places, and 0 and 1 stay.
 #[derive(Clone, Copy)]
 pub enum Value {
     Zero,

@@ -15,7 +15,7 @@ use Rattle.letter.specs.Full.{Full, held-in}
 use Rattle.record.specs.declared.refusal.Refusal.{Refusal}
 use Rattle.record.specs.declared.refusal.Refusal.the-variants.{DoesNotFit, NoPlace}
 
--- the letters, and the rule, worked out from the letters, for which further letter fits
+-- the letters in order, and the rule by which one more fits after given letters
 pub record Recorded (X : Type 0) : Type 0 where
   pub letters : List X
   pub fits : List X → X → Bool

@@ -8,7 +8,7 @@ use Rattle.letter.specs.declared.full.Tagged.{Tagged}
 use Rattle.letter.specs.Full.{Full, held-in}
 use Rattle.record.specs.Recorded.{Recorded}
 
--- a letter fits while fewer are recorded than there are rows, the first 512 at most
+-- one more fits if there are more rows than letters; rows after the first 512 are not used
 abbrev pub row-free : {X : Type 0} → ℕ → List X → X → Bool
 row-free rows letters x = ltb (length letters) (min 512 rows)
 

@@ -12,8 +12,8 @@ use letter::kind::Kind;
 // The most letters that a record holds.
 pub const MOST_LETTERS: usize = 512;
 
-// A list of at most 512 letters, and a rule, worked out from that list, for which further letter fits.
-// A question takes the record for writing, since the rows of a record are lent to it, and changes nothing.
+// Up to 512 letters in order, and a rule that decides from these letters alone whether one more fits.
+// Questions take the record for writing too, since its rows are lent to it, and leave it as it was.
 pub trait Record {
     type Letter: Kind;
 
@@ -25,12 +25,12 @@ pub trait Record {
         ensures few { λ r. ⌜ r ≤ 512 ⌝ }
         ensures same { λ _. ⌜ now (self .exit) ≡ now (self .entry) ⌝ };
 
-    // The letter at a place below the count; any other place is refused.
+    // The letter at the place, or a refusal where there is none.
     fn letter(&mut self, place: usize) -> Result<Tagged<Self::Letter>, Refusal>
         ensures value { λ r. ⌜ Reads place (content (now (self .entry))) r (content (now (self .exit))) ⌝ }
         ensures same { λ _. ⌜ now (self .exit) ≡ now (self .entry) ⌝ };
 
-    // Puts a letter that fits at the end; any other is refused.
+    // Appends the letter, or refuses it if it does not fit.
     fn add(&mut self, tag: Tag, letter: Self::Letter) -> Result<(), Refusal>
         ensures made { λ r. ⌜ Adds (full tag letter) (content (now (self .entry))) r (content (now (self .exit))) ⌝ }
         ensures same { λ r. ⌜ Same-if-refused r (now (self .entry)) (now (self .exit)) ⌝ };

@@ -52,7 +52,7 @@ abbrev pub last-letter : {L : Type 0} → Option (Full L) → List (Full L) → 
 last-letter before [] = before
 last-letter before (x ∷ xs) = last-letter (Some x) xs
 
--- a letter fits while the count is below 512 and it is the same as the last letter or a row, of the first 64 at most, is free
+-- after fewer than 512 letters one more fits if it goes on with the last stretch, or if a row is left for a new one; rows after the first 64 are not used
 abbrev pub run-fits : {L : Type 0} → (L → L → Bool) → ℕ → List (Full L) → Full L → Bool
 run-fits equals rows letters x =
     ltb (length letters) 512 && (continues equals (last-letter None letters) x || ltb (stretches equals None letters) (min 64 rows))

@@ -1,0 +1,4 @@
+pub mod Told
+pub mod Bitwise
+pub mod Paths
+pub mod Values

@@ -1,0 +1,4 @@
+pub mod Bit
+pub mod Meaning
+pub mod Values
+pub mod Full

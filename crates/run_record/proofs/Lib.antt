@@ -1,0 +1,3 @@
+pub mod Slices
+pub mod Tally
+pub mod Pushes

@@ -13,7 +13,9 @@ ghost use Rattle.psl.specs.declared.entry.Condition.the-variants.{True};
 ghost use Rattle.psl.specs.declared.entry.Formula.the-variants.{Weak};
 ghost use Rattle.file.specs.Operands.{condition-names, sequence-names, formula-names};
 ghost use Rattle.file.specs.Sizes.{sizes as sizes-of};
+ghost use Rattle.file.specs.Rules.{condition-rules, sequence-rules, formula-rules};
 ghost use Rattle.file.specs.File.{questions};
+ghost use Rattle.file.specs.Accepted.{inspected};
 ghost use Rattle.property.specs.Place.{conditions-of, sequences-of, formulas-of, sequence-trees, Holds-file};
 use crate::place::Property;
 use file::read::read_tables;
@@ -30,6 +32,14 @@ fn row<E: Copy>(table: &[E], count: usize, i: usize) -> Option<E>
     ensures { λ r. ⌜ r ≡ nth (take count (now (table .entry))) i ⌝ }
 {
     if i < count { Some(table[i]) } else { None }
+}
+
+// The first `count` rows of a table.
+fn used<E>(table: &[E], count: usize) -> &[E]
+    requires { ⌜ count ≤ length (now table) ⌝ }
+    ensures { λ r. ⌜ now r ≡ take count (now (table .entry)) ⌝ }
+{
+    &table[0..count]
 }
 
 impl Property {
@@ -116,6 +126,30 @@ impl Property {
         ensures names { λ r. ⌜ Cases r (Unit {0}) (λ e. formula-names (length (conditions-of (now (self .entry)))) (length (sequences-of (now (self .entry)))) i e ≡ true) ⌝ }
     {
         row(&self.tables.formulas, self.tables.counts.formulas, i)
+    }
+
+    // All conditions, each fit to stand after those before it.
+    pub fn conditions(&self) -> &[Condition]
+        ensures value { λ r. ⌜ now r ≡ conditions-of (now (self .entry)) ⌝ }
+        ensures fine { λ r. ⌜ inspected condition-rules [] (now r) ≡ true ⌝ }
+    {
+        used(&self.tables.conditions, self.tables.counts.conditions)
+    }
+
+    // All sequences, each fit to stand after those before it.
+    pub fn sequences(&self) -> &[Sequence]
+        ensures value { λ r. ⌜ now r ≡ sequences-of (now (self .entry)) ⌝ }
+        ensures fine { λ r. ⌜ inspected (sequence-rules (length (conditions-of (now (self .entry))))) [] (now r) ≡ true ⌝ }
+    {
+        used(&self.tables.sequences, self.tables.counts.sequences)
+    }
+
+    // All formulas, each fit to stand after those before it.
+    pub fn formulas(&self) -> &[Formula]
+        ensures value { λ r. ⌜ now r ≡ formulas-of (now (self .entry)) ⌝ }
+        ensures fine { λ r. ⌜ inspected (formula-rules (length (conditions-of (now (self .entry)))) (length (sequences-of (now (self .entry))))) [] (now r) ≡ true ⌝ }
+    {
+        used(&self.tables.formulas, self.tables.counts.formulas)
     }
 
     // The property itself: the last formula.

@@ -33,7 +33,14 @@ place-below zero j w h p = first-place j (w .letters) (w .tail) p
 place-below (suc i) zero w h p = absurd (not-suc-le-zero h)
 place-below (suc i) (suc j) w h p = place-below i j (rest w) (le-of-suc-le-suc h) p
 
+pub place-first : (j : ℕ) (w : Word) → Place w j → Place w zero
+place-first j w p = place-below zero j w (omega arith) p
+
 -- suffixes
+pub first-of : (i : ℕ) (w : Word) → seen (from w i) zero ≡ seen w i
+first-of zero w = refl
+first-of (suc i) w = first-of i (rest w)
+
 pub from-from : (i j : ℕ) (w : Word) → from (from w i) j ≡ from w (i + j)
 from-from zero j w = rw (zero-add j)
 from-from (suc i) j w = rw (suc-add i j) (from-from i j (rest w))

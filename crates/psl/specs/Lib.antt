@@ -8,3 +8,6 @@ pub mod Removal
 pub mod Verdict
 pub mod Cases
 pub mod Literal
+pub mod Automaton
+pub mod OptionalClock
+pub mod Order

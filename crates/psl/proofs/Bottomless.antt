@@ -2,11 +2,14 @@
 use mathlib.Core.List.{List, [], _∷_, _++_}
 use mathlib.Core.Option.{Option, none, some}
 use mathlib.Core.Logic.{inl, inr}
-use Prim.Native.Nat.{ℕ, zero, suc}
+use Prim.Native.Nat.{ℕ, zero, suc, _≤_}
+use native.Mathlib.Nat.{le-of-suc-le-suc}
+use native.Mathlib.Omega.{arith}
 use lib.Dec.{T}
+use lib.ListN.{length}
 use Rattle.psl.specs.Syntax.{Condition, negation, Sequence, condition, concat, fusion, either, both, empty, star, sequence-at}
 use Rattle.psl.specs.Letter.{Letter, top, bottom, ordinary, satisfies}
-use Rattle.psl.specs.Word.{Word, rest, seen, Present, Place, or-bottom, front, Ends}
+use Rattle.psl.specs.Word.{bottoms, Word, with-tail, rest, seen, Present, Place, or-bottom, front, Ends}
 use Rattle.psl.specs.Clocked.{Repeats, done, more}
 use Rattle.psl.specs.Automaton.{live}
 use Rattle.psl.specs.OptionalClock.{Clock, free, on, waits, Tick-under, Matches-under}
@@ -83,3 +86,8 @@ ticking-place c j w h = bottomless-place j w (tick-bottomless c (front w (suc j)
 
 pub matches-place : (k : Clock) (r : Sequence) (j : ℕ) (w : Word) → Matches-under k r (front w (suc j)) → Place w j
 matches-place k r j w h = bottomless-place j w (matches-bottomless k r (front w (suc j)) h)
+
+pub bottomless-past : (v : List Letter) (j : ℕ) → length v ≤ j → Bottomless (front (with-tail v bottoms) (suc j)) → ⊥
+bottomless-past [] j h x = x
+bottomless-past (l ∷ v) zero h x = absurd (omega arith)
+bottomless-past (l ∷ v) (suc j) h x = bottomless-past v j (le-of-suc-le-suc h) (bottomless-tail l (front (with-tail v bottoms) (suc j)) x)

@@ -78,7 +78,7 @@ nonempty-tops (l ∷ v) = tt
 pub nonempty-mir : (w : Word) → Nonempty w → Nonempty (mir w)
 nonempty-mir w p = place-in-mir w zero p
 
-present? : (x : Option Letter) → Present x ⊎ (Present x → ⊥)
+pub present? : (x : Option Letter) → Present x ⊎ (Present x → ⊥)
 present? none = inr (λ h. h)
 present? (some l) = inl tt
 

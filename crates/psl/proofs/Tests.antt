@@ -71,7 +71,7 @@ iff-trans x y = (λ a. y .0 (x .0 a), λ c. x .1 (y .1 c))
 pub iff-not : {A : Type 0} (b : Bool) → A ↔ T b → (A → ⊥) ↔ T (not b)
 iff-not b e = (λ n. not-right b .1 (λ x. n (e .1 x)), λ h a. not-right b .0 h (e .0 a))
 
-iff-sym : {A B : Type 0} → A ↔ B → B ↔ A
+pub iff-sym : {A B : Type 0} → A ↔ B → B ↔ A
 iff-sym e = (e .1, e .0)
 
 pub dec-T : (b : Bool) → Dec (T b)

@@ -11,3 +11,4 @@ pub mod Literal
 pub mod Automaton
 pub mod OptionalClock
 pub mod Order
+pub mod Theorems

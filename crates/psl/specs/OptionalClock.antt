@@ -1,5 +1,5 @@
 -- One meaning over a clock that may be absent: under a clock it is the clocked meaning, free of one the unclocked.
-use mathlib.Core.Bool.{Bool, true, false}
+use mathlib.Core.Bool.{Bool, true, false, _&&_}
 use mathlib.Core.List.{List, [], _∷_, _++_}
 use mathlib.Core.Option.{Option, none, some}
 use mathlib.Core.Path.{_≡_}
@@ -70,3 +70,14 @@ Satisfies-under k (until f g) w =
 Satisfies-under k (abort f b) w = Satisfies-under k f w ⊎ ((j : ℕ) × Holds (seen w j) b × Satisfies-under k f (with-tops (front w j)))
 Satisfies-under k (implies r f) w = (j : ℕ) → Place w j → Matches-under k r (front (mir w) (suc j)) → Satisfies-under k f (from w j)
 Satisfies-under k (formula-at f d) w = Satisfies-under (on d) f w
+
+-- the sequence has no @
+abbrev pub clock-free : Sequence → Bool
+clock-free (condition b) = true
+clock-free (concat r s) = clock-free r && clock-free s
+clock-free (fusion r s) = clock-free r && clock-free s
+clock-free (either r s) = clock-free r && clock-free s
+clock-free (both r s) = clock-free r && clock-free s
+clock-free empty = true
+clock-free (star r) = clock-free r
+clock-free (sequence-at r d) = false

@@ -12,3 +12,4 @@ pub mod Automaton
 pub mod OptionalClock
 pub mod Order
 pub mod Theorems
+pub mod Images

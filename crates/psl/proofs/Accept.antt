@@ -7,7 +7,7 @@ use lib.Dec.{T}
 use Rattle.psl.specs.Syntax.{Sequence, condition, concat, fusion, either, both, empty, star, sequence-at}
 use Rattle.psl.specs.Letter.{Letter}
 use Rattle.psl.specs.Clocked.{Repeats, done}
-use Rattle.psl.specs.Automaton.{State, null, final, single, last, init, step, any, run, accepts}
+use Rattle.psl.specs.Automaton.{State, null, final, single, last, init, step, any, run, accepts, Completes}
 use Rattle.psl.specs.OptionalClock.{Clock, on, Matches-under}
 use Rattle.psl.proofs.Derive.{Derives, sum-rest, left-derives, right-derives, either-derives, both-derives, concat-derives, fusion-derives}
 use Rattle.psl.proofs.Derive.{star-derives, again-derives}
@@ -193,3 +193,11 @@ accepts-right k r (l ∷ v) = (there, back)
         let o = and-out (run k r (init k r l) v (a .0)) (final k r (a .0)) (a .1) in
         subst (λ (w : List Letter). Matches-under k r (l ∷ w)) (append-nil v)
             (after-right k r l v [] .1 (a .0, o .0, final-right k r (a .0) .1 (o .1)))
+
+-- what completes a match from a state, letter by letter
+pub completes-right : (k : Clock) (r : Sequence) (p : State k r) (v : List Letter) → Rest k r p v ↔ Completes k r p v
+completes-right k r p [] = final-right k r p
+completes-right k r p (l ∷ v) = (
+  (λ x. let (q, s, y) = step-right k r l p v .0 x in (q, s, completes-right k r q v .0 y)),
+  (λ (q, s, y). step-right k r l p v .1 (q, s, completes-right k r q v .1 y)),
+)

@@ -1,6 +1,6 @@
 -- Words past their letters.
 use mathlib.Core.List.{List, [], _∷_, _++_}
-use mathlib.Core.Path.{_≡_, refl, _∙_, ap}
+use mathlib.Core.Path.{_≡_, refl, sym, _∙_, ap}
 use Prim.Native.Nat.{ℕ, zero, suc, _+_, _≤_, _<_}
 use native.Mathlib.Nat.{le-of-suc-le-suc}
 use native.Mathlib.Omega.{arith}
@@ -8,6 +8,7 @@ use lib.ListN.{length, take, drop}
 use Rattle.psl.specs.Letter.{Letter, top}
 use Rattle.psl.specs.Word.{Tail, end, tops, bottoms, with-tail, head, seen, Present, Place, from, or-bottom, front}
 use Rattle.psl.specs.Automaton.{run-of-tops}
+use Rattle.psl.proofs.Places.{first-of}
 
 -- the bare tail
 pub seen-bare : (t : Tail) (k : ℕ) → seen (with-tail [] t) k ≡ head [] t
@@ -34,6 +35,12 @@ drop-all [] zero h = refl
 drop-all [] (suc j) h = refl
 drop-all (l ∷ v) zero h = absurd (omega arith)
 drop-all (l ∷ v) (suc j) h = drop-all v j (le-of-suc-le-suc h)
+
+pub from-past : (v : List Letter) (t : Tail) (j : ℕ) → length v ≤ j → from (with-tail v t) j ≡ with-tail [] t
+from-past v t j h = from-drop v t j ∙ ap (λ (u : List Letter). with-tail u t) (drop-all v j h)
+
+pub seen-past : (v : List Letter) (t : Tail) (j : ℕ) → length v ≤ j → seen (with-tail v t) j ≡ head [] t
+seen-past v t j h = sym (first-of j (with-tail v t)) ∙ ap (λ x. seen x zero) (from-past v t j h)
 
 pub place-in : (v : List Letter) (t : Tail) (j : ℕ) → j < length v → Place (with-tail v t) j
 place-in [] t j h = absurd (omega arith)

@@ -6,6 +6,7 @@ use lib.Dec.{T}
 use Rattle.psl.specs.Letter.{Letter}
 use Rattle.psl.specs.Clocked.{Repeats}
 use Rattle.psl.specs.Automaton.{into, on-left, on-right}
+use Rattle.psl.specs.Evaluation.{first}
 use Rattle.psl.proofs.Languages.{Lang, after, Concat, Fusion, concat-out, concat-skip, concat-cons, fusion-out, fusion-here, fusion-cons, star-out}
 use Rattle.psl.proofs.Languages.{star-in}
 use Rattle.psl.proofs.Tests.{and-in, and-out, or-left, or-right, or-out}

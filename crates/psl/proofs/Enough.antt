@@ -1,5 +1,6 @@
 -- How many tops suffice: what no run of at most so many tops completes, as there are states, none does.
 use mathlib.Core.Bool.{Bool, true, false, not, _&&_, _||_}
+use mathlib.Core.List.{List, [], _∷_, _++_}
 use mathlib.Core.Path.{_≡_, refl}
 use mathlib.Core.Logic.{_⊎_, inl, inr}
 use Prim.Native.Nat.{ℕ, zero, suc, pred, _+_, _*_, _≤_, _<_}
@@ -7,11 +8,11 @@ use native.Mathlib.Nat.{add-mul, mul-assoc, mul-one}
 use native.Mathlib.Omega.{arith}
 use lib.Dec.{T}
 use Rattle.psl.specs.Syntax.{Sequence, condition, concat, fusion, either, both, empty, star, sequence-at}
-use Rattle.psl.specs.Letter.{top}
+use Rattle.psl.specs.Letter.{Letter, top}
 use Rattle.psl.specs.Clocked.{more}
-use Rattle.psl.specs.Automaton.{waiting, over, Leaf-state, leaf-states, states, State, last, step, any}
-use Rattle.psl.specs.OptionalClock.{Clock, free, on}
-use Rattle.psl.proofs.Accept.{any-in, any-out}
+use Rattle.psl.specs.Automaton.{waiting, over, Leaf-state, leaf-states, states, State, last, step, any, run-of-tops}
+use Rattle.psl.specs.OptionalClock.{Clock, free, on, Matches-under}
+use Rattle.psl.proofs.Accept.{Rest, last-right, init-right, step-right, any-in, any-out, after-right}
 use Rattle.psl.proofs.Tests.{and-in, and-out, or-left, or-right, or-out, not-right, dec-T}
 
 -- the sum of F over the states
@@ -198,3 +199,51 @@ module _ (k : Clock) (r : Sequence) where
       go m e (inl s) = s
       go zero e (inr h) = absurd (omega (arith, count-most k r (within 1)))
       go (suc m) e (inr h) = absurd (omega (arith, count-most k r (within (suc m))))
+
+  within-from : (n : ℕ) (p : State k r) → T (within 0 p) → T (within n p)
+  within-from zero p x = x
+  within-from (suc n) p x = further n p (within-from n p x)
+
+  within-out : (n : ℕ) (p : State k r) → T (within n p) → (m : ℕ) × (m ≤ n) × Rest k r p (run-of-tops (suc m))
+  within-out zero p x = (0, omega arith, last-right k r top p .1 x)
+  within-out (suc n) p x =
+      elim (or-out (within n p) (any k r (λ q. step k r top p q && within n q)) x) [
+        | inl y ↦ let (m, h, z) = within-out n p y in (m, omega arith, z)
+        | inr y ↦
+            let (q, z) = any-out k r (λ q. step k r top p q && within n q) y in
+            let (a, b) = and-out (step k r top p q) (within n q) z in
+            let (m, h, c) = within-out n q b in
+            (suc m, omega arith, step-right k r top p (run-of-tops (suc m)) .1 (q, a, c))
+      ]
+
+  within-in : (m : ℕ) (p : State k r) → Rest k r p (run-of-tops (suc m)) → T (within (pred (states k r)) p)
+  within-in zero p x = within-from (pred (states k r)) p (last-right k r top p .0 x)
+  within-in (suc m) p x =
+      let n = pred (states k r) in
+      let (q, a, y) = step-right k r top p (run-of-tops (suc m)) .0 x in
+      settled p
+          (or-right (within n p) (any k r (λ q. step k r top p q && within n q))
+              (any-in k r (λ q. step k r top p q && within n q) q (and-in (step k r top p q) (within n q) a (within-in m q y))))
+
+  some-state : State k r → 0 < states k r
+  some-state p =
+      let most = total-most k r 1 (λ p. 1) (λ p. omega arith) in
+      let more = total-more k r (λ p. 0) (λ p. 1) (λ p. omega arith) p (omega arith) in
+      omega (arith, mul-one (states k r))
+
+  -- from a state: at most as many tops as there are states
+  pub tops-enough : (p : State k r) → ((m : ℕ) × Rest k r p (run-of-tops (suc m))) → (m : ℕ) × (m < states k r) × Rest k r p (run-of-tops (suc m))
+  tops-enough p (m, x) = let (n, h, y) = within-out (pred (states k r)) p (within-in m p x) in (n, omega (arith, some-state p), y)
+
+  -- after a list: at most one more
+  pub tops-after : (v : List Letter) → ((m : ℕ) × Matches-under k r (v ++ run-of-tops (suc m)))
+      → (m : ℕ) × (m ≤ states k r) × Matches-under k r (v ++ run-of-tops (suc m))
+  tops-after [] (zero, x) = (0, omega arith, x)
+  tops-after [] (suc m, x) =
+      let (q, a, y) = init-right k r top (run-of-tops (suc m)) .0 x in
+      let (n, h, z) = tops-enough q (m, y) in
+      (suc n, omega arith, init-right k r top (run-of-tops (suc n)) .1 (q, a, z))
+  tops-after (l ∷ v) (m, x) =
+      let (q, a, y) = after-right k r l v (run-of-tops (suc m)) .0 x in
+      let (n, h, z) = tops-enough q (m, y) in
+      (n, omega arith, after-right k r l v (run-of-tops (suc n)) .1 (q, a, z))

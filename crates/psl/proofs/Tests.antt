@@ -96,6 +96,20 @@ dec-or {A} {B} (no f) (no g) = no neither
     neither (inl x) = f x
     neither (inr y) = g y
 
+pub dec-imp : {A B : Type 0} → Dec A → Dec B → Dec (A → B)
+dec-imp d (yes y) = yes (λ x. y)
+dec-imp (no f) (no g) = yes (λ x. absurd (f x))
+dec-imp (yes x) (no g) = no (λ h. g (h x))
+
+pub settle : {A : Type 0} → Dec A → ((A → ⊥) → ⊥) → A
+settle (yes x) n = x
+settle (no y) n = absurd (n y)
+
+pub dec-not : {A : Type 0} → Dec A → Dec (A → ⊥)
+dec-not (yes x) = no (λ n. n x)
+dec-not (no n) = yes n
+
+-- bounded search
 pub below-or : (j n : ℕ) → (j < n) ⊎ (n ≤ j)
 below-or j zero = inr zero-le
 below-or zero (suc n) = inl (omega arith)
@@ -134,3 +148,10 @@ dec-some n P d s = go (dec-some-below (suc n) P d)
     go : Dec ((j : ℕ) × (j < suc n) × P j) → Dec ((j : ℕ) × P j)
     go (yes t) = yes (t .0, t .2)
     go (no f) = no (λ t. elim (below-or (t .0) (suc n)) [ inl h ↦ f (t .0, h, t .1) | inr h ↦ f (n, omega arith, s (t .0) (omega arith) (t .1)) ])
+
+pub dec-all : (n : ℕ) (P : ℕ → Type 0) → ((j : ℕ) → Dec (P j)) → ((j : ℕ) → n ≤ j → P n → P j) → Dec ((j : ℕ) → P j)
+dec-all n P d s = go (dec-all-below (suc n) P d)
+  where
+    go : Dec ((j : ℕ) → j < suc n → P j) → Dec ((j : ℕ) → P j)
+    go (yes t) = yes (λ j. elim (below-or j (suc n)) [ inl h ↦ t j h | inr h ↦ s j (omega arith) (t n (omega arith)) ])
+    go (no f) = no (λ t. f (λ j h. t j))

@@ -3,6 +3,7 @@ use mathlib.Core.Bool.{Bool, true, false, _&&_, _||_}
 use mathlib.Core.List.{List, [], _∷_}
 use mathlib.Core.Logic.{_⊎_, inl, inr}
 use Prim.Native.Nat.{ℕ, zero, suc, _+_, _*_}
+use lib.Dec.{T}
 use Rattle.psl.specs.Syntax.{Condition, negation, Sequence, condition, concat, fusion, either, both, empty, star, sequence-at}
 use Rattle.psl.specs.Letter.{Letter, top, satisfies}
 use Rattle.psl.specs.OptionalClock.{Clock, free, on, ticks}
@@ -188,6 +189,11 @@ run k r S (l ∷ v) q = run k r (λ q′. any k r (λ p. S p && step k r l p q�
 abbrev pub accepts : Clock → Sequence → List Letter → Bool
 accepts k r [] = null r
 accepts k r (l ∷ v) = any k r (λ q. run k r (init k r l) v q && final k r q)
+
+-- the list leads from this state to one in which a match may end
+abbrev pub Completes : (k : Clock) → (r : Sequence) → State k r → List Letter → Type 0
+Completes k r p [] = T (final k r p)
+Completes k r p (l ∷ v) = (q : State k r) × T (step k r l p q) × Completes k r q v
 
 -- n tops in a row
 abbrev pub run-of-tops : ℕ → List Letter

@@ -13,3 +13,4 @@ pub mod OptionalClock
 pub mod Order
 pub mod Theorems
 pub mod Images
+pub mod Evaluation

@@ -14,3 +14,4 @@ pub mod Order
 pub mod Theorems
 pub mod Images
 pub mod Evaluation
+pub mod Numbered

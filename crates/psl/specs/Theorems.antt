@@ -2,13 +2,21 @@
 use mathlib.Core.List.{List, _∷_, _++_}
 use mathlib.Core.Path.{_≡_}
 use mathlib.Core.Logic.{_↔_}
-use Prim.Native.Nat.{ℕ, _+_, _<_}
+use Prim.Native.Nat.{ℕ, suc, _+_, _≤_, _<_}
+use lib.Dec.{T}
 use Rattle.psl.specs.Syntax.{Condition, Sequence, Formula, strong-sequence, weak-sequence, abort}
 use Rattle.psl.specs.Letter.{Letter}
 use Rattle.psl.specs.Word.{end, tops, bottoms, Word, with-tail, with-tops, mir, seen, Holds, front}
-use Rattle.psl.specs.Clocked.{Satisfies}
-use Rattle.psl.specs.Verdict.{Verdict}
+use Rattle.psl.specs.Clocked.{Matches, Satisfies}
+use Rattle.psl.specs.Unclocked.{Unclocked-matches, Unclocked-satisfies}
+use Rattle.psl.specs.Removal.{unclock-sequence, unclock}
+use Rattle.psl.specs.Verdict.{Verdict, Clock-free-verdict}
+use Rattle.psl.specs.Automaton.{states, State, accepts, Completes, run-of-tops, live, extends}
+use Rattle.psl.specs.Images.{ticked}
+use Rattle.psl.specs.Numbered.{number}
+use Rattle.psl.specs.OptionalClock.{Clock, free, on, clock-free}
 use Rattle.psl.specs.Order.{_⊑_, Nonempty, topped}
+use Rattle.psl.specs.Table.{size}
 
 -- under a clock, a non-empty word with letters raised to a non-empty word satisfies at least as much
 abbrev pub Raised-satisfies-more : Type 0
@@ -49,3 +57,48 @@ pub record Abort-by-first-place : Type 0 where
 abbrev pub Weak-by-longest-prefix : Type 0
 Weak-by-longest-prefix =
     (c : Condition) (r : Sequence) (w : Word) → Nonempty w → Satisfies c (weak-sequence r) w ↔ Satisfies c (strong-sequence r) (topped w)
+
+-- the states of the automaton of a sequence number exactly `states`, which is at most the size of the sequence
+pub record States-numbered : Type 0 where
+  pub below : (k : Clock) (r : Sequence) (p : State k r) → number k r p < states k r
+  pub apart : (k : Clock) (r : Sequence) (p q : State k r) → number k r p ≡ number k r q → p ≡ q
+  pub each : (k : Clock) (r : Sequence) (n : ℕ) → n < states k r → (p : State k r) × (number k r p ≡ n)
+  pub within-size : (c : Condition) (r : Sequence) → states (on c) r ≤ size r
+
+-- the automaton of a sequence accepts exactly the lists that match it
+pub record Automaton-accepts-matches : Type 0 where
+  pub clocked : (c : Condition) (r : Sequence) (v : List Letter) → Matches c r v ↔ T (accepts (on c) r v)
+  pub unclocked : (r : Sequence) (v : List Letter) → T (clock-free r) → Unclocked-matches r v ↔ T (accepts free r v)
+
+-- whether one or more tops complete a match is a Boolean, of a state and of a list of letters read
+pub record Tops-decided : Type 0 where
+  -- under a clock
+  pub live-state : (c : Condition) (r : Sequence) (p : State (on c) r) → ((n : ℕ) × Completes (on c) r p (run-of-tops (suc n))) ↔ T (live (on c) r p)
+  pub live-list : (c : Condition) (r : Sequence) (v : List Letter) → ((n : ℕ) × Matches c r (v ++ run-of-tops (suc n))) ↔ T (extends (on c) r v)
+  -- free of a clock, in the sequences that clock removal gives
+  pub ticked-state : (r : Sequence) → T (ticked r) → (p : State free r) → ((n : ℕ) × Completes free r p (run-of-tops (suc n))) ↔ T (live free r p)
+  pub ticked-list : (r : Sequence) → T (ticked r) → (v : List Letter) → ((n : ℕ) × Unclocked-matches r (v ++ run-of-tops (suc n))) ↔ T (extends free r v)
+  pub image-ticked : (c : Condition) (r : Sequence) → T (ticked (unclock-sequence c r))
+
+-- what one or more tops complete, at most as many tops as there are states complete from a state, and at most one more after a list
+pub record Tops-enough : Type 0 where
+  pub from-state : (k : Clock) (r : Sequence) (p : State k r) → ((n : ℕ) × Completes k r p (run-of-tops (suc n)))
+      → (n : ℕ) × (n < states k r) × Completes k r p (run-of-tops (suc n))
+  pub clocked : (c : Condition) (r : Sequence) (v : List Letter) → ((n : ℕ) × Matches c r (v ++ run-of-tops (suc n)))
+      → (n : ℕ) × (n ≤ states (on c) r) × Matches c r (v ++ run-of-tops (suc n))
+  pub unclocked : (r : Sequence) → T (clock-free r) → (v : List Letter) → ((n : ℕ) × Unclocked-matches r (v ++ run-of-tops (suc n)))
+      → (n : ℕ) × (n ≤ states free r) × Unclocked-matches r (v ++ run-of-tops (suc n))
+
+-- both meanings are decidable, of every list and on every word
+pub record Meanings-decidable : Type 0 where
+  pub clocked-matches : (c : Condition) (r : Sequence) (v : List Letter) → Dec (Matches c r v)
+  pub unclocked-matches : (r : Sequence) (v : List Letter) → Dec (Unclocked-matches r v)
+  pub clocked : (c : Condition) (f : Formula) (w : Word) → Dec (Satisfies c f w)
+  pub unclocked : (f : Formula) (w : Word) → Dec (Unclocked-satisfies f w)
+
+-- a clock written into a tree changes nothing: neither matches, nor satisfaction, nor verdicts, nor how many states are needed
+pub record Clock-removal : Type 0 where
+  pub matches : (c : Condition) (r : Sequence) (v : List Letter) → Matches c r v ↔ Unclocked-matches (unclock-sequence c r) v
+  pub satisfies : (c : Condition) (f : Formula) (w : Word) → Satisfies c f w ↔ Unclocked-satisfies (unclock c f) w
+  pub verdicts : (c : Condition) (f : Formula) (v : List Letter) (n : ℕ) → Verdict c f v n ↔ Clock-free-verdict (unclock c f) v n
+  pub sizes : (c : Condition) (r : Sequence) → states free (unclock-sequence c r) ≡ states (on c) r

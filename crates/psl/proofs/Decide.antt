@@ -8,8 +8,8 @@ use native.Mathlib.Omega.{arith}
 use lib.ListN.{length, take, length-map}
 use Rattle.psl.specs.Syntax.{Condition, Sequence, Formula, strong, weak, strong-sequence, weak-sequence, negated, conjoined, next, until, abort}
 use Rattle.psl.specs.Syntax.{implies, formula-at}
-use Rattle.psl.specs.Letter.{Letter, mirror, satisfies}
-use Rattle.psl.specs.Word.{Tail, end, tops, bottoms, Word, with-tail, with-tops, mir, seen, Present, Place, Holds, from, front}
+use Rattle.psl.specs.Letter.{Letter, mirror}
+use Rattle.psl.specs.Word.{Tail, end, tops, bottoms, Word, with-tail, with-tops, mir, seen, Place, Holds, from, front}
 use Rattle.psl.specs.Automaton.{states, accepts, run-of-tops}
 use Rattle.psl.specs.Evaluation.{is-tops}
 use Rattle.psl.specs.OptionalClock.{Clock, on, ticks, waits, Ticks, Tick-under, Matches-under, Starts-under, Satisfies-under}
@@ -19,7 +19,7 @@ use Rattle.psl.proofs.Alike.{Alike, alike-satisfies}
 use Rattle.psl.proofs.Beyond.{from-past, seen-past}
 use Rattle.psl.proofs.Enough.{tops-after}
 use Rattle.psl.proofs.Longest.{weak-longest}
-use Rattle.psl.proofs.Places.{holds-present, place-below, place-first, first-of}
+use Rattle.psl.proofs.Places.{holds-present, place?, holds?, place-below, place-first, first-of}
 use Rattle.psl.proofs.Reach.{Reach, reach-parts, Breaks, implies-unbroken}
 use Rattle.psl.proofs.Tests.{dec-T, dec-iff, dec-and, dec-or, dec-imp, dec-not, dec-some-below, dec-all-below, dec-some, dec-all}
 
@@ -44,14 +44,6 @@ reach? k r S d w =
 
 starts? : (k : Clock) (r : Sequence) (w : Word) → Dec (Starts-under k r w)
 starts? k r w = dec-iff ((λ (j, p, m). (j, p, m, tt)), (λ (j, p, m, x). (j, p, m))) (reach? k r (λ x. Unit {0}) (λ x. yes tt) w)
-
-holds? : (x : Option Letter) (b : Condition) → Dec (Holds x b)
-holds? none b = no (λ h. h)
-holds? (some l) b = dec-T (satisfies l b)
-
-place? : (x : Option Letter) → Dec (Present x)
-place? none = no (λ h. h)
-place? (some l) = yes tt
 
 ticks? : (k : Clock) (x : Option Letter) → Dec (Ticks k x)
 ticks? k none = no (λ h. h)

@@ -7,8 +7,7 @@ use Rattle.psl.specs.Syntax.{Condition, Formula, strong, weak, next, until}
 use Rattle.psl.specs.Letter.{Letter}
 use Rattle.psl.specs.Word.{Word, mir, seen, Present, Place, Holds, from}
 use Rattle.psl.specs.OptionalClock.{Clock, free, Ticks, Satisfies-under}
-use Rattle.psl.proofs.Monotone.{present?}
-use Rattle.psl.proofs.Places.{place-below, place-in-mir}
+use Rattle.psl.proofs.Places.{place?, place-below, place-in-mir}
 
 -- hold! without a clock
 pub free-strong : (b : Condition) (w : Word) → Satisfies-under free (strong b) w ↔ Holds (seen w zero) b
@@ -19,7 +18,7 @@ free-strong b w = (to, λ h. (zero, tt, h))
     to (suc j, t, h) = absurd (t .0)
 
 pub free-weak : (b : Condition) (w : Word) → Satisfies-under free (weak b) w ↔ (Holds (seen w zero) b ⊎ (Place w zero → ⊥))
-free-weak b w = (λ s. elim (present? (seen w zero)) [ inl p ↦ inl (s zero p tt) | inr n ↦ inr n ], back)
+free-weak b w = (λ s. elim (place? (seen w zero)) [ yes p ↦ inl (s zero p tt) | no n ↦ inr n ], back)
   where
     back : Holds (seen w zero) b ⊎ (Place w zero → ⊥) → Satisfies-under free (weak b) w
     back s (suc j) p t = absurd (t .0)

@@ -2,7 +2,7 @@
 use mathlib.Core.List.{List, [], _∷_}
 use mathlib.Core.Option.{Option, none, some}
 use mathlib.Core.Path.{_≡_, refl}
-use mathlib.Core.Logic.{_⊎_, inl, inr}
+use mathlib.Core.Logic.{inl, inr}
 use Prim.Native.Nat.{ℕ, zero, suc}
 use lib.Dec.{T}
 use Rattle.psl.specs.Syntax.{Condition, negation, Sequence, condition, concat, fusion, either, both, empty, star, sequence-at, Formula, strong}
@@ -14,7 +14,7 @@ use Rattle.psl.specs.Order.{Below, low, high, same, _⊑_, Nonempty}
 use Rattle.psl.proofs.Bottomless.{ticking-place, matches-place}
 use Rattle.psl.proofs.Order.{below-holds, below-or-bottom, ⊑-mir, ⊑-from, Raised, front-raised, tops-raised, split-raised, repeats-raised}
 use Rattle.psl.proofs.Order.{empty-raised, fusion-raised, ends-raised}
-use Rattle.psl.proofs.Places.{holds-present, place-first, first-of, place-of-mir, place-in-mir}
+use Rattle.psl.proofs.Places.{holds-present, place?, place-first, first-of, place-of-mir, place-in-mir}
 
 ticks-below : (k : Clock) {l m : Letter} → Below (some l) (some m) → T (ticks k l) → T (ticks k m)
 ticks-below free h t = tt
@@ -78,10 +78,6 @@ nonempty-tops (l ∷ v) = tt
 pub nonempty-mir : (w : Word) → Nonempty w → Nonempty (mir w)
 nonempty-mir w p = place-in-mir w zero p
 
-pub present? : (x : Option Letter) → Present x ⊎ (Present x → ⊥)
-present? none = inr (λ h. h)
-present? (some l) = inl tt
-
 above-none : {y : Option Letter} → Below none y → Present y → y ≡ some top
 above-none high h = refl
 above-none same h = absurd h
@@ -106,11 +102,11 @@ pub prefix-below : (j : ℕ) (w w′ : Word) → w ⊑ w′ → Nonempty w → P
     → (n : ℕ) × Place w n × (with-tops (front w (suc n)) ⊑ with-tops (front w′ (suc j)))
 prefix-below zero w w′ h f p = (zero, f, tops-raised (front w 1) (front w′ 1) (front-raised 1 w w′ h))
 prefix-below (suc j) w w′ h f p =
-    elim (present? (seen w 1)) [
-      | inl q ↦
+    elim (place? (seen w 1)) [
+      | yes q ↦
           let k = prefix-below j (rest w) (rest w′) (λ i. h (suc i)) q p in
           (suc (k .0), k .1, cons-⊑ (or-bottom (seen w zero)) (or-bottom (seen w′ zero)) (front (rest w) (suc (k .0))) (front (rest w′) (suc j)) (below-or-bottom (h zero)) (k .2))
-      | inr n ↦
+      | no n ↦
           (zero, f, cons-⊑ (or-bottom (seen w zero)) (or-bottom (seen w′ zero)) [] (front (rest w′) (suc j)) (below-or-bottom (h zero)) (tops-above j (rest w) (rest w′) (λ i. h (suc i)) n p))
     ]
 

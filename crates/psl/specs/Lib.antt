@@ -15,3 +15,4 @@ pub mod Theorems
 pub mod Images
 pub mod Evaluation
 pub mod Numbered
+pub mod Named

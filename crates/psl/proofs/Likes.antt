@@ -1,14 +1,13 @@
 -- Lists whose letters and mirrors satisfy the same conditions by name.
 use mathlib.Core.Bool.{Bool, true, false, not, _||_}
-use mathlib.Core.List.{List, [], _∷_, _++_, map}
+use mathlib.Core.List.{List, [], _∷_, map}
 use mathlib.Core.Path.{_≡_, refl, sym, _∙_, ap, ap₂, subst}
 use Prim.Native.Nat.{ℕ, zero, suc}
 use lib.Dec.{T}
 use lib.ListN.{length, take, drop}
 use Rattle.psl.specs.Syntax.{Condition, truth, falsity, atom, negation, conjunction}
 use Rattle.psl.specs.Letter.{Letter, mirror, satisfies}
-use Rattle.psl.specs.Word.{Tail, tops, behead, Ends}
-use Rattle.psl.specs.Clocked.{Repeats, done, more}
+use Rattle.psl.specs.Word.{Tail, tops, behead}
 use Rattle.psl.specs.Automaton.{run-of-tops}
 use Rattle.psl.specs.Evaluation.{is-nil, first, cut, cut-tail, some-below}
 use Rattle.psl.specs.Named.{filled, Like, Likes}
@@ -67,57 +66,9 @@ module _ (f g : ℕ → Condition) where
   likes-drop (suc j) (l ∷ u) [] h = absurd h
   likes-drop (suc j) (l ∷ u) (m ∷ v) h = likes-drop j u v (h .1)
 
-  pub likes-join : (u v w x : List Letter) → Likes f g u v → Likes f g w x → Likes f g (u ++ w) (v ++ x)
-  likes-join [] [] w x h k = k
-  likes-join [] (m ∷ v) w x h k = absurd h
-  likes-join (l ∷ u) [] w x h k = absurd h
-  likes-join (l ∷ u) (m ∷ v) w x h k = (h .0, likes-join u v w x (h .1) k)
-
   pub likes-tops : (n : ℕ) → Likes f g (run-of-tops n) (run-of-tops n)
   likes-tops zero = tt
   likes-tops (suc n) = (λ n. (refl, refl), likes-tops n)
-
-  pub likes-split : (u w v : List Letter) → Likes f g (u ++ w) v → (u′ : List Letter) × (w′ : List Letter) × (v ≡ u′ ++ w′) × Likes f g u u′ × Likes f g w w′
-  likes-split [] w v h = ([], v, refl, tt, h)
-  likes-split (l ∷ u) w [] h = absurd h
-  likes-split (l ∷ u) w (m ∷ v) h =
-      let s = likes-split u w v (h .1) in
-      (m ∷ s .0, s .1, ap (λ (x : List Letter). m ∷ x) (s .2), (h .0, s .3), s .4)
-
-  pub ends-like : (b : Condition) (u v : List Letter) → Likes f g u v → Ends (filled f b) u → Ends (filled g b) v
-  ends-like b [] v h t = absurd t
-  ends-like b (l ∷ []) [] h t = absurd h
-  ends-like b (l ∷ []) (m ∷ []) h t = subst T (like-filled l m b (h .0)) t
-  ends-like b (l ∷ []) (m ∷ (n ∷ v)) h t = absurd (h .1)
-  ends-like b (l ∷ (k ∷ u)) [] h t = absurd h
-  ends-like b (l ∷ (k ∷ u)) (m ∷ []) h t = absurd (h .1)
-  ends-like b (l ∷ (k ∷ u)) (m ∷ (n ∷ v)) h t = ends-like b (k ∷ u) (n ∷ v) (h .1) t
-
-  more-like : (P Q : List Letter → Type 0) → ((u v : List Letter) → Likes f g u v → P u → Q v)
-      → (l : Letter) (u w : List Letter) → P (l ∷ u) → ((v : List Letter) → Likes f g w v → Repeats Q v)
-      → (v u′ w′ : List Letter) → v ≡ u′ ++ w′ → Likes f g (l ∷ u) u′ → Likes f g w w′ → Repeats Q v
-  more-like P Q mono l u w p ih v [] w′ e h k = absurd h
-  more-like P Q mono l u w p ih v (m ∷ u′) w′ e h k = more m u′ w′ e (mono (l ∷ u) (m ∷ u′) h p) (ih w′ k)
-
-  pub repeats-like : (P Q : List Letter → Type 0) → ((u v : List Letter) → Likes f g u v → P u → Q v)
-      → {u : List Letter} → Repeats P u → (v : List Letter) → Likes f g u v → Repeats Q v
-  repeats-like P Q mono done [] h = done
-  repeats-like P Q mono done (m ∷ v) h = absurd h
-  repeats-like P Q mono (more l u w e p q) v h =
-      let s = likes-split (l ∷ u) w v (subst (λ (x : List Letter). Likes f g x v) e h) in
-      more-like P Q mono l u w p (repeats-like P Q mono q) v (s .0) (s .1) (s .2) (s .3) (s .4)
-
-  pub fusion-like : (P P′ Q Q′ : List Letter → Type 0) → ((u v : List Letter) → Likes f g u v → P u → P′ v) → ((u v : List Letter) → Likes f g u v → Q u → Q′ v)
-      → (u : List Letter) (l : Letter) (w : List Letter) → P (u ++ (l ∷ [])) → Q (l ∷ w)
-      → (v u′ w′ : List Letter) → v ≡ u′ ++ w′ → Likes f g u u′ → Likes f g (l ∷ w) w′
-      → (a : List Letter) × (m : Letter) × (b : List Letter) × (v ≡ a ++ (m ∷ b)) × P′ (a ++ (m ∷ [])) × Q′ (m ∷ b)
-  fusion-like P P′ Q Q′ mp mq u l w p q v u′ [] e h k = absurd k
-  fusion-like P P′ Q Q′ mp mq u l w p q v u′ (m ∷ w′) e h k =
-      (u′, m, w′, e, mp (u ++ (l ∷ [])) (u′ ++ (m ∷ [])) (likes-join u u′ (l ∷ []) (m ∷ []) h (k .0, tt)) p, mq (l ∷ w) (m ∷ w′) k q)
-
-  pub likes-nil : (v : List Letter) → Likes f g [] v → v ≡ []
-  likes-nil [] h = refl
-  likes-nil (m ∷ v) h = absurd h
 
   pub first-like : (b : Condition) (t : Tail) (u v : List Letter) → Likes f g u v → first (filled f b) t u ≡ first (filled g b) t v
   first-like b t [] [] h = refl

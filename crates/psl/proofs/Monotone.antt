@@ -12,8 +12,8 @@ use Rattle.psl.specs.Word.{Word, with-tops, mir, rest, seen, Present, Place, H
 use Rattle.psl.specs.OptionalClock.{Clock, free, on, ticks, waits, Ticks, Tick-under, Matches-under, Starts-under, Satisfies-under}
 use Rattle.psl.specs.Order.{Below, low, high, same, _⊑_, Nonempty}
 use Rattle.psl.proofs.Bottomless.{ticking-place, matches-place}
-use Rattle.psl.proofs.Order.{below-holds, below-or-bottom, ⊑-mir, ⊑-from, Raised, front-raised, tops-raised, split-raised, repeats-raised}
-use Rattle.psl.proofs.Order.{empty-raised, fusion-raised, ends-raised}
+use Rattle.psl.proofs.Order.{below-holds, below-or-bottom, ⊑-mir, ⊑-from, Above, front-raised, tops-raised}
+use Rattle.psl.proofs.Pairwise.{Carries, ends-carry, tick-carry, concat-carry, fusion-carry, repeats-carry, empty-carry}
 use Rattle.psl.proofs.Places.{holds-present, place?, place-first, first-of, place-of-mir, place-in-mir}
 
 ticks-below : (k : Clock) {l m : Letter} → Below (some l) (some m) → T (ticks k l) → T (ticks k m)
@@ -24,29 +24,20 @@ waits-below : (k : Clock) {l m : Letter} → Below (some l) (some m) → T (wait
 waits-below free h t = absurd t
 waits-below (on c) h t = below-holds (negation c) h t
 
-tick-raised : (k : Clock) (u v : List Letter) → Raised u v → Tick-under k u → Tick-under k v
-tick-raised k [] v h t = absurd t
-tick-raised k (l ∷ []) [] h t = absurd h
-tick-raised k (l ∷ []) (m ∷ []) h t = ticks-below k (h .0) t
-tick-raised k (l ∷ []) (m ∷ (n ∷ v)) h t = absurd (h .1)
-tick-raised k (l ∷ (o ∷ u)) [] h t = absurd h
-tick-raised k (l ∷ (o ∷ u)) (m ∷ []) h t = absurd (h .1)
-tick-raised k (l ∷ (o ∷ u)) (m ∷ (n ∷ v)) h t = (waits-below k (h .0) (t .0), tick-raised k (o ∷ u) (n ∷ v) (h .1) (t .1))
+tick-raised : (k : Clock) → Carries Above (Tick-under k) (Tick-under k)
+tick-raised k = tick-carry Above k k (λ l m. ticks-below k) (λ l m. waits-below k)
 
-pub matches-raised : (k : Clock) (r : Sequence) (u v : List Letter) → Raised u v → Matches-under k r u → Matches-under k r v
-matches-raised k (condition b) u v h x = (tick-raised k u v h (x .0), ends-raised b u v h (x .1))
-matches-raised k (concat r s) u v h x =
-    let p = split-raised (x .0) (x .1) v (rw (x .2) at h) in
-    (p .0, p .1, p .2, matches-raised k r (x .0) (p .0) (p .3) (x .3), matches-raised k s (x .1) (p .1) (p .4) (x .4))
-matches-raised k (fusion r s) u v h x =
-    let p = split-raised (x .0) (x .1 ∷ x .2) v (rw (x .3) at h) in
-    fusion-raised (Matches-under k r) (Matches-under k s) (matches-raised k r) (matches-raised k s) (x .0) (x .1) (x .2) (x .4) (x .5) v (p .0) (p .1) (p .2) (p .3) (p .4)
-matches-raised k (either r s) u v h (inl x) = inl (matches-raised k r u v h x)
-matches-raised k (either r s) u v h (inr x) = inr (matches-raised k s u v h x)
-matches-raised k (both r s) u v h x = (matches-raised k r u v h (x .0), matches-raised k s u v h (x .1))
-matches-raised k empty u v h x = empty-raised v (rw x at h)
-matches-raised k (star r) u v h x = repeats-raised (Matches-under k r) (matches-raised k r) x v h
-matches-raised k (sequence-at r d) u v h x = matches-raised (on d) r u v h x
+matches-raised : (k : Clock) (r : Sequence) → Carries Above (Matches-under k r) (Matches-under k r)
+matches-raised k (condition b) = λ u v h (t, e). (tick-raised k u v h t, ends-carry Above b b (λ l m. below-holds b) u v h e)
+matches-raised k (concat r s) =
+    concat-carry Above (Matches-under k r) (Matches-under k r) (Matches-under k s) (Matches-under k s) (matches-raised k r) (matches-raised k s)
+matches-raised k (fusion r s) =
+    fusion-carry Above (Matches-under k r) (Matches-under k r) (Matches-under k s) (Matches-under k s) (matches-raised k r) (matches-raised k s)
+matches-raised k (either r s) = λ u v h. elim [ inl x ↦ inl (matches-raised k r u v h x) | inr x ↦ inr (matches-raised k s u v h x) ]
+matches-raised k (both r s) = λ u v h (x, y). (matches-raised k r u v h x, matches-raised k s u v h y)
+matches-raised k empty = empty-carry Above
+matches-raised k (star r) = λ u v h x. repeats-carry Above (Matches-under k r) (Matches-under k r) (matches-raised k r) x v h
+matches-raised k (sequence-at r d) = matches-raised (on d) r
 
 pub starts-⊑ : (k : Clock) (r : Sequence) (w w′ : Word) → w ⊑ w′ → Starts-under k r w → Starts-under k r w′
 starts-⊑ k r w w′ h (j, p, m) =

@@ -1,14 +1,13 @@
 -- The order of words: letters, places, prefixes and tails.
 use mathlib.Core.List.{List, [], _∷_, _++_}
 use mathlib.Core.Option.{Option, none, some, Option·map}
-use mathlib.Core.Path.{_≡_, refl, ap}
 use Prim.Native.Nat.{ℕ, zero, suc, _≤_}
 use native.Mathlib.Nat.{not-suc-le-zero, le-of-suc-le-suc}
 use Rattle.psl.specs.Syntax.{Condition}
 use Rattle.psl.specs.Letter.{Letter, mirror}
-use Rattle.psl.specs.Word.{Tail, tops, bottoms, Word, with-tail, with-tops, mir, rest, seen, Present, Place, Holds, from, or-bottom, front, Ends}
-use Rattle.psl.specs.Clocked.{Repeats, done, more}
+use Rattle.psl.specs.Word.{Tail, tops, bottoms, Word, with-tail, with-tops, mir, rest, seen, Present, Place, Holds, from, or-bottom, front}
 use Rattle.psl.specs.Order.{Below, low, high, same, _⊑_}
+use Rattle.psl.specs.Pairwise.{Pairwise}
 use Rattle.psl.proofs.Places.{place-first, seen-mir}
 
 -- letters
@@ -35,11 +34,11 @@ pub ⊑-from : (k : ℕ) (w w′ : Word) → w ⊑ w′ → from w k ⊑ from w�
 ⊑-from (suc k) w w′ h = ⊑-from k (rest w) (rest w′) (λ i. h (suc i))
 
 -- lists, letter by letter
+abbrev pub Above : Letter → Letter → Type 0
+Above l m = Below (some l) (some m)
+
 abbrev pub Raised : List Letter → List Letter → Type 0
-Raised [] [] = Unit {0}
-Raised [] (m ∷ v) = ⊥
-Raised (l ∷ u) [] = ⊥
-Raised (l ∷ u) (m ∷ v) = Below (some l) (some m) × Raised u v
+Raised u v = Pairwise Above u v
 
 pub front-raised : (n : ℕ) (w w′ : Word) → w ⊑ w′ → Raised (front w n) (front w′ n)
 front-raised zero w w′ h = tt
@@ -51,55 +50,6 @@ tops-raised [] (m ∷ v) h i = absurd h
 tops-raised (l ∷ u) [] h i = absurd h
 tops-raised (l ∷ u) (m ∷ v) h zero = h .0
 tops-raised (l ∷ u) (m ∷ v) h (suc i) = tops-raised u v (h .1) i
-
--- a list above a joined one is joined in the same way
-pub split-raised : (u w v : List Letter) → Raised (u ++ w) v → (u′ : List Letter) × (w′ : List Letter) × (v ≡ u′ ++ w′) × Raised u u′ × Raised w w′
-split-raised [] w v h = ([], v, refl, tt, h)
-split-raised (l ∷ u) w [] h = absurd h
-split-raised (l ∷ u) w (m ∷ v) h =
-    let s = split-raised u w v (h .1) in
-    (m ∷ s .0, s .1, ap (λ x. m ∷ x) (s .2), (h .0, s .3), s .4)
-
-pub join-raised : (u u′ w w′ : List Letter) → Raised u u′ → Raised w w′ → Raised (u ++ w) (u′ ++ w′)
-join-raised [] [] w w′ h k = k
-join-raised [] (m ∷ u′) w w′ h k = absurd h
-join-raised (l ∷ u) [] w w′ h k = absurd h
-join-raised (l ∷ u) (m ∷ u′) w w′ h k = (h .0, join-raised u u′ w w′ (h .1) k)
-
-more-raised : (P : List Letter → Type 0) → ((u v : List Letter) → Raised u v → P u → P v)
-    → (l : Letter) (u w : List Letter) → P (l ∷ u) → ((v : List Letter) → Raised w v → Repeats P v)
-    → (v u′ w′ : List Letter) → v ≡ u′ ++ w′ → Raised (l ∷ u) u′ → Raised w w′ → Repeats P v
-more-raised P mono l u w p ih v [] w′ e h k = absurd h
-more-raised P mono l u w p ih v (m ∷ u′) w′ e h k = more m u′ w′ e (mono (l ∷ u) (m ∷ u′) h p) (ih w′ k)
-
-pub repeats-raised : (P : List Letter → Type 0) → ((u v : List Letter) → Raised u v → P u → P v)
-    → {u : List Letter} → Repeats P u → (v : List Letter) → Raised u v → Repeats P v
-repeats-raised P mono done [] h = done
-repeats-raised P mono done (m ∷ v) h = absurd h
-repeats-raised P mono (more l u w e p q) v h =
-    let s = split-raised (l ∷ u) w v (rw e at h) in
-    more-raised P mono l u w p (repeats-raised P mono q) v (s .0) (s .1) (s .2) (s .3) (s .4)
-
-pub empty-raised : (v : List Letter) → Raised [] v → v ≡ []
-empty-raised [] h = refl
-empty-raised (m ∷ v) h = absurd h
-
-pub fusion-raised : (P Q : List Letter → Type 0) → ((u v : List Letter) → Raised u v → P u → P v) → ((u v : List Letter) → Raised u v → Q u → Q v)
-    → (u : List Letter) (l : Letter) (w : List Letter) → P (u ++ (l ∷ [])) → Q (l ∷ w)
-    → (v u′ w′ : List Letter) → v ≡ u′ ++ w′ → Raised u u′ → Raised (l ∷ w) w′
-    → (a : List Letter) × (m : Letter) × (b : List Letter) × (v ≡ a ++ (m ∷ b)) × P (a ++ (m ∷ [])) × Q (m ∷ b)
-fusion-raised P Q mp mq u l w p q v u′ [] e h k = absurd k
-fusion-raised P Q mp mq u l w p q v u′ (m ∷ w′) e h k =
-    (u′, m, w′, e, mp (u ++ (l ∷ [])) (u′ ++ (m ∷ [])) (join-raised u u′ (l ∷ []) (m ∷ []) h (k .0, tt)) p, mq (l ∷ w) (m ∷ w′) k q)
-
-pub ends-raised : (b : Condition) (u v : List Letter) → Raised u v → Ends b u → Ends b v
-ends-raised b [] v h t = absurd t
-ends-raised b (l ∷ []) [] h t = absurd h
-ends-raised b (l ∷ []) (m ∷ []) h t = below-holds b (h .0) t
-ends-raised b (l ∷ []) (m ∷ (n ∷ v)) h t = absurd (h .1)
-ends-raised b (l ∷ (k ∷ u)) [] h t = absurd h
-ends-raised b (l ∷ (k ∷ u)) (m ∷ []) h t = absurd (h .1)
-ends-raised b (l ∷ (k ∷ u)) (m ∷ (n ∷ v)) h t = ends-raised b (k ∷ u) (n ∷ v) (h .1) t
 
 bottoms-least : (i : ℕ) (w : Word) → Below (seen (with-tail [] bottoms) i) (seen w i)
 bottoms-least zero w = low

@@ -13,11 +13,11 @@ use Rattle.psl.specs.Word.{Tail, mirror-tail, behead}
 use Rattle.psl.specs.Automaton.{accepts, run-of-tops, extends}
 use Rattle.psl.specs.Evaluation.{is-tops, is-end, first, cut, cut-tail, nowhere, tail-ticks, scan, reach, eval}
 use Rattle.psl.specs.Named.{filled, filled-sequence, filled-formula, filled-clock, Like, Likes}
-use Rattle.psl.specs.OptionalClock.{Clock, free, on, ticks, waits, Tick-under, Matches-under}
+use Rattle.psl.specs.OptionalClock.{Clock, free, on, ticks, waits, Matches-under}
 use Rattle.psl.proofs.Accept.{accepts-right}
 use Rattle.psl.proofs.Likes.{likes-sym, like-filled, like-mirror, like-negated, likes-mirror, likes-behead, likes-length, likes-take, likes-drop}
-use Rattle.psl.proofs.Likes.{likes-join, likes-tops, likes-split, ends-like, repeats-like, fusion-like, likes-nil, first-like, cut-like}
-use Rattle.psl.proofs.Likes.{some-below-alike, nil-like}
+use Rattle.psl.proofs.Likes.{likes-tops, first-like, cut-like, some-below-alike, nil-like}
+use Rattle.psl.proofs.Pairwise.{Carries, pairwise-join, ends-carry, tick-carry, concat-carry, fusion-carry, repeats-carry, empty-carry}
 use Rattle.psl.proofs.Stretch.{Stretches, extends-right}
 use Rattle.psl.proofs.Tests.{same-test}
 
@@ -48,30 +48,18 @@ module _ (f g : ℕ → Condition) where
   tail-like free t = refl
   tail-like (on c) t = refl
 
-  tick-like : (c : Clock) (u v : List Letter) → Likes f g u v → Tick-under (filled-clock f c) u → Tick-under (filled-clock g c) v
-  tick-like c [] v h t = absurd t
-  tick-like c (l ∷ []) [] h t = absurd h
-  tick-like c (l ∷ []) (m ∷ []) h t = subst T (ticks-like c l m (h .0)) t
-  tick-like c (l ∷ []) (m ∷ (n ∷ v)) h t = absurd (h .1)
-  tick-like c (l ∷ (k ∷ u)) [] h t = absurd h
-  tick-like c (l ∷ (k ∷ u)) (m ∷ []) h t = absurd (h .1)
-  tick-like c (l ∷ (k ∷ u)) (m ∷ (n ∷ v)) h t = (subst T (waits-like c l m (h .0)) (t .0), tick-like c (k ∷ u) (n ∷ v) (h .1) (t .1))
-
-  pub matches-like : (c : Clock) (r : Sequence) (u v : List Letter) → Likes f g u v → Matches-under (filled-clock f c) (filled-sequence f r) u → Matches-under (filled-clock g c) (filled-sequence g r) v
-  matches-like c (condition b) u v h x = (tick-like c u v h (x .0), ends-like f g b u v h (x .1))
-  matches-like c (concat r s) u v h x =
-      let k = likes-split f g (x .0) (x .1) v (subst (λ (z : List Letter). Likes f g z v) (x .2) h) in
-      (k .0, k .1, k .2, matches-like c r (x .0) (k .0) (k .3) (x .3), matches-like c s (x .1) (k .1) (k .4) (x .4))
-  matches-like c (fusion r s) u v h x =
-      let k = likes-split f g (x .0) (x .1 ∷ x .2) v (subst (λ (z : List Letter). Likes f g z v) (x .3) h) in
-      fusion-like f g (Matches-under (filled-clock f c) (filled-sequence f r)) (Matches-under (filled-clock g c) (filled-sequence g r)) (Matches-under (filled-clock f c) (filled-sequence f s)) (Matches-under (filled-clock g c) (filled-sequence g s))
-        (matches-like c r) (matches-like c s) (x .0) (x .1) (x .2) (x .4) (x .5) v (k .0) (k .1) (k .2) (k .3) (k .4)
-  matches-like c (either r s) u v h (inl x) = inl (matches-like c r u v h x)
-  matches-like c (either r s) u v h (inr x) = inr (matches-like c s u v h x)
-  matches-like c (both r s) u v h x = (matches-like c r u v h (x .0), matches-like c s u v h (x .1))
-  matches-like c empty u v h x = likes-nil f g v (subst (λ (z : List Letter). Likes f g z v) x h)
-  matches-like c (star r) u v h x = repeats-like f g (Matches-under (filled-clock f c) (filled-sequence f r)) (Matches-under (filled-clock g c) (filled-sequence g r)) (matches-like c r) x v h
-  matches-like c (sequence-at r d) u v h x = matches-like (on d) r u v h x
+  matches-like : (c : Clock) (r : Sequence) → Carries (Like f g) (Matches-under (filled-clock f c) (filled-sequence f r)) (Matches-under (filled-clock g c) (filled-sequence g r))
+  matches-like c (condition b) = λ u v h (t, e). (
+    tick-carry (Like f g) (filled-clock f c) (filled-clock g c) (λ l m x. subst T (ticks-like c l m x)) (λ l m x. subst T (waits-like c l m x)) u v h t,
+    ends-carry (Like f g) (filled f b) (filled g b) (λ l m x. subst T (like-filled f g l m b x)) u v h e,
+  )
+  matches-like c (concat r s) = concat-carry (Like f g) _ _ _ _ (matches-like c r) (matches-like c s)
+  matches-like c (fusion r s) = fusion-carry (Like f g) _ _ _ _ (matches-like c r) (matches-like c s)
+  matches-like c (either r s) = λ u v h. elim [ inl x ↦ inl (matches-like c r u v h x) | inr x ↦ inr (matches-like c s u v h x) ]
+  matches-like c (both r s) = λ u v h (x, y). (matches-like c r u v h x, matches-like c s u v h y)
+  matches-like c empty = empty-carry (Like f g)
+  matches-like c (star r) = λ u v h x. repeats-carry (Like f g) _ _ (matches-like c r) x v h
+  matches-like c (sequence-at r d) = matches-like (on d) r
 
   scan-like : (c : Clock) (F F′ G G′ : List Letter → Bool) (t : Tail) → ((u v : List Letter) → Likes f g u v → F u ≡ F′ v) → ((u v : List Letter) → Likes f g u v → G u ≡ G′ v)
       → (u v : List Letter) → Likes f g u v → scan (filled-clock f c) F G t u ≡ scan (filled-clock g c) F′ G′ t v
@@ -94,7 +82,7 @@ extends-there f g c r long u v h x =
     let n = suc (y .0) in
     extends-right (filled-clock g c) (filled-sequence g r) (long g) v .0
       (y .0,
-        (matches-like f g c r (u ++ run-of-tops n) (v ++ run-of-tops n) (likes-join f g u v (run-of-tops n) (run-of-tops n) h (likes-tops f g n)) (y .1)))
+        (matches-like f g c r (u ++ run-of-tops n) (v ++ run-of-tops n) (pairwise-join (Like f g) u v (run-of-tops n) (run-of-tops n) h (likes-tops f g n)) (y .1)))
 
 extends-like : (f g : ℕ → Condition) (c : Clock) (r : Sequence) → ((f : ℕ → Condition) → Stretches (filled-clock f c) (filled-sequence f r)) → (u v : List Letter) → Likes f g u v → extends (filled-clock f c) (filled-sequence f r) u ≡ extends (filled-clock g c) (filled-sequence g r) v
 extends-like f g c r long u v h =

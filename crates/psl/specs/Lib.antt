@@ -16,3 +16,4 @@ pub mod Images
 pub mod Evaluation
 pub mod Numbered
 pub mod Named
+pub mod Pairwise

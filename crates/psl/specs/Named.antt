@@ -1,5 +1,5 @@
 -- Conditions by name: trees whose conditions are names, filled in with the conditions that the names stand for.
-use mathlib.Core.List.{List, [], _∷_}
+use mathlib.Core.List.{List}
 use mathlib.Core.Path.{_≡_}
 use Prim.Native.Nat.{ℕ}
 use Rattle.psl.specs.Syntax.{Condition, truth, falsity, atom, negation, conjunction, Sequence, condition, concat, fusion, either, both, empty}
@@ -7,6 +7,7 @@ use Rattle.psl.specs.Syntax.{star, sequence-at, Formula, strong, weak, strong-
 use Rattle.psl.specs.Syntax.{implies, formula-at}
 use Rattle.psl.specs.Letter.{Letter, mirror, satisfies}
 use Rattle.psl.specs.OptionalClock.{Clock, free, on}
+use Rattle.psl.specs.Pairwise.{Pairwise}
 
 -- a name n becomes the condition f n; other conditions do not occur, and become f 0
 abbrev pub filled : (ℕ → Condition) → Condition → Condition
@@ -52,7 +53,4 @@ Like f g l m = (n : ℕ) → (satisfies l (f n) ≡ satisfies m (g n)) × (satis
 
 -- the same of two lists, letter by letter
 abbrev pub Likes : (ℕ → Condition) → (ℕ → Condition) → List Letter → List Letter → Type 0
-Likes f g [] [] = Unit {0}
-Likes f g [] (m ∷ v) = ⊥
-Likes f g (l ∷ u) [] = ⊥
-Likes f g (l ∷ u) (m ∷ v) = Like f g l m × Likes f g u v
+Likes f g u v = Pairwise (Like f g) u v

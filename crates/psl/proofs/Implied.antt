@@ -27,7 +27,7 @@ use Rattle.psl.proofs.Images.{image-ticked, ticked-clock-free, image-tame, tam
 use Rattle.psl.proofs.Longest.{weak-longest}
 use Rattle.psl.proofs.Number.{number-below, state-at, number-apart}
 use Rattle.psl.proofs.RemovalFormulas.{clock-removal}
-use Rattle.psl.proofs.RemovalMatches.{matches-to, matches-from}
+use Rattle.psl.proofs.RemovalMatches.{removal-matches}
 use Rattle.psl.proofs.RunsOfTops.{late-some}
 use Rattle.psl.proofs.Stretch.{Stretches, clock-stretches, ticked-stretches, extends-right}
 use Rattle.psl.proofs.Tests.{iff-trans, iff-sym, dec-iff}
@@ -106,14 +106,14 @@ meanings-decidable = record {
   unclocked = λ f w. dec-iff (free-satisfies f w) (decide free (erase f) w);
 }
 
-removal-satisfies : (c : Condition) (f : Formula) (w : Word) → Satisfies c f w ↔ Unclocked-satisfies (unclock c f) w
-removal-satisfies c f w =
+image-satisfies : (c : Condition) (f : Formula) (w : Word) → Satisfies c f w ↔ Unclocked-satisfies (unclock c f) w
+image-satisfies c f w =
     iff-trans (clock-satisfies c f w) (iff-trans (clock-removal c f w) (iff-sym (tame-satisfies (unclock c f) (image-tame c f) w)))
 
-removal-matches : (c : Condition) (r : Sequence) (v : List Letter) → Matches c r v ↔ Unclocked-matches (unclock-sequence c r) v
-removal-matches c r v =
-    iff-trans (clock-matches c r v)
-        (iff-trans (matches-to c r v, matches-from c r v) (iff-sym (clock-free-matches (unclock-sequence c r) (ticked-clock-free (unclock-sequence c r) (image-ticked c r)) v)))
+image-matches : (c : Condition) (r : Sequence) (v : List Letter) → Matches c r v ↔ Unclocked-matches (unclock-sequence c r) v
+image-matches c r v =
+    let image = unclock-sequence c r in
+    iff-trans (clock-matches c r v) (iff-trans (removal-matches c r v) (iff-sym (clock-free-matches image (ticked-clock-free image (image-ticked c r)) v)))
 
 -- equal satisfactions judge alike
 judged-same : {S R : Word → Type 0} {v : List Letter} {n : ℕ} → ((w : Word) → S w ↔ R w) → Judged S v n → Judged R v n
@@ -126,8 +126,8 @@ judged-same {v = v} e (failed-for-good a b d) =
 
 pub clock-removed : Clock-removal
 clock-removed = record {
-  matches = removal-matches;
-  satisfies = removal-satisfies;
-  verdicts = λ c f v n. (judged-same (removal-satisfies c f), judged-same (λ w. iff-sym (removal-satisfies c f w)));
+  matches = image-matches;
+  satisfies = image-satisfies;
+  verdicts = λ c f v n. (judged-same (image-satisfies c f), judged-same (λ w. iff-sym (image-satisfies c f w)));
   sizes = image-size;
 }

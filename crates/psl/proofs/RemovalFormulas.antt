@@ -9,7 +9,7 @@ use lib.Dec.{T}
 use Rattle.psl.specs.Syntax.{Condition, negation, conjunction, Formula, strong, weak, strong-sequence, weak-sequence, negated, conjoined, next}
 use Rattle.psl.specs.Syntax.{until, abort, implies, formula-at}
 use Rattle.psl.specs.Letter.{Letter, satisfies}
-use Rattle.psl.specs.Word.{Word, with-tops, mir, rest, seen, Place, Holds, from, or-bottom, front}
+use Rattle.psl.specs.Word.{Word, mir, rest, seen, Place, Holds, from, or-bottom, front}
 use Rattle.psl.specs.Removal.{after-waiting, unclock}
 use Rattle.psl.specs.OptionalClock.{free, on, Ticks, Tick-under, Satisfies-under}
 use Rattle.psl.proofs.Bottomless.{ticking-place}
@@ -18,7 +18,8 @@ use Rattle.psl.proofs.FreeTicks.{free-strong, free-next, ticks-present, free-u
 use Rattle.psl.proofs.Mirrors.{mir-twice, not-both, one-of, seen-mir-from}
 use Rattle.psl.proofs.Monotone.{ticks-holds}
 use Rattle.psl.proofs.Places.{place-first, first-of, seen-mir, place-of-mir}
-use Rattle.psl.proofs.RemovalMatches.{conjoin, conjoin-left, conjoin-right, matches-to, matches-from}
+use Rattle.psl.proofs.RemovalMatches.{conjoin, conjoin-left, conjoin-right, removal-matches}
+use Rattle.psl.proofs.Same.{iff-both, starts-same, weakly-same, negated-same, abort-same, implies-same}
 use Rattle.psl.proofs.Tests.{settle}
 
 -- ticks by places
@@ -148,21 +149,10 @@ until-from c f g f′ g′ w hf hg x =
 pub clock-removal : (c : Condition) (f : Formula) (w : Word) → Satisfies-under (on c) f w ↔ Satisfies-under free (unclock c f) w
 clock-removal c (strong b) w = ((λ (j, t, h). strong-to c b w j t h), strong-from c b w)
 clock-removal c (weak b) w = (weak-to c b w, weak-from c b w)
-clock-removal c (strong-sequence r) w = (
-  (λ (j, p, m). (j, p, matches-to c r (front w (suc j)) m)),
-  (λ (j, p, m). (j, p, matches-from c r (front w (suc j)) m)),
-)
-clock-removal c (weak-sequence r) w = (
-  (λ s j p. let (k, q, m) = s j p in (k, q, matches-to c r (front (with-tops (front w (suc j))) (suc k)) m)),
-  (λ s j p. let (k, q, m) = s j p in (k, q, matches-from c r (front (with-tops (front w (suc j))) (suc k)) m)),
-)
-clock-removal c (negated f) w =
-    let h = clock-removal c f (mir w) in
-    ((λ s x. s (h .1 x)), (λ s x. s (h .0 x)))
-clock-removal c (conjoined f g) w =
-    let h = clock-removal c f w in
-    let k = clock-removal c g w in
-    ((λ (a, b). (h .0 a, k .0 b)), (λ (a, b). (h .1 a, k .1 b)))
+clock-removal c (strong-sequence r) w = starts-same (removal-matches c r) w
+clock-removal c (weak-sequence r) w = weakly-same (removal-matches c r) w
+clock-removal c (negated f) w = negated-same (clock-removal c f) w
+clock-removal c (conjoined f g) w = iff-both (clock-removal c f w) (clock-removal c g w)
 clock-removal c (next f) w = (
   (λ (j, k, t, p, u, s). next-to c (unclock c f) w j k t u (clock-removal c f (from (from w (suc j)) k) .0 s)),
   (λ x.
@@ -173,12 +163,6 @@ clock-removal c (until f g) w = (
   until-to c f g (unclock c f) (unclock c g) w (λ x. clock-removal c f x .0) (λ x. clock-removal c g x .0),
   until-from c f g (unclock c f) (unclock c g) w (λ x. clock-removal c f x .1) (λ x. clock-removal c g x .1),
 )
-clock-removal c (abort f b) w = (
-  elim [ inl s ↦ inl (clock-removal c f w .0 s) | inr x ↦ inr (x .0, x .1, clock-removal c f (with-tops (front w (x .0))) .0 (x .2)) ],
-  elim [ inl s ↦ inl (clock-removal c f w .1 s) | inr x ↦ inr (x .0, x .1, clock-removal c f (with-tops (front w (x .0))) .1 (x .2)) ],
-)
-clock-removal c (implies r f) w = (
-  (λ s j p m. clock-removal c f (from w j) .0 (s j p (matches-from c r (front (mir w) (suc j)) m))),
-  (λ s j p m. clock-removal c f (from w j) .1 (s j p (matches-to c r (front (mir w) (suc j)) m))),
-)
+clock-removal c (abort f b) w = abort-same (clock-removal c f) b w
+clock-removal c (implies r f) w = implies-same (removal-matches c r) (clock-removal c f) w
 clock-removal c (formula-at f d) w = clock-removal d f w

@@ -1,7 +1,6 @@
 -- Clock removal on sequences: they match the same lists.
 use mathlib.Core.List.{List, [], _∷_, _++_, append-assoc}
 use mathlib.Core.Path.{refl, ap}
-use mathlib.Core.Logic.{inl, inr}
 use lib.Dec.{T}
 use Rattle.psl.specs.Syntax.{Condition, negation, conjunction, Sequence, condition, concat, fusion, either, both, empty, star, sequence-at}
 use Rattle.psl.specs.Letter.{Letter, top, bottom, ordinary, satisfies}
@@ -9,7 +8,7 @@ use Rattle.psl.specs.Word.{Ends}
 use Rattle.psl.specs.Clocked.{Repeats, done, more}
 use Rattle.psl.specs.Removal.{unclock-sequence}
 use Rattle.psl.specs.OptionalClock.{free, on, Tick-under, Matches-under}
-use Rattle.psl.proofs.SameLists.{repeats-map}
+use Rattle.psl.proofs.Same.{iff-sum, iff-both, Same, concat-same, fusion-same, star-same}
 use Rattle.psl.proofs.Tests.{and-in, and-out}
 
 pub conjoin : (l : Letter) (c b : Condition) → T (satisfies l c) → T (satisfies l b) → T (satisfies l (conjunction c b))
@@ -55,24 +54,12 @@ tick-from : (c b : Condition) {u : List Letter} (w : List Letter) → Matches-un
 tick-from c b w o done = one-tick c b w o
 tick-from c b w o (more l u x e p q) = rw (e, append-assoc u x w) (wait-cons c b l u (x ++ w) p (tick-from c b w o q))
 
-pub matches-to : (c : Condition) (r : Sequence) (v : List Letter) → Matches-under (on c) r v → Matches-under free (unclock-sequence c r) v
-matches-to c (condition b) v x = tick-to c b v (x .0) (x .1)
-matches-to c (concat r s) v (u, w, e, x, y) = (u, w, e, matches-to c r u x, matches-to c s w y)
-matches-to c (fusion r s) v (u, l, w, e, x, y) = (u, l, w, e, matches-to c r (u ++ (l ∷ [])) x, matches-to c s (l ∷ w) y)
-matches-to c (either r s) v (inl x) = inl (matches-to c r v x)
-matches-to c (either r s) v (inr x) = inr (matches-to c s v x)
-matches-to c (both r s) v (x, y) = (matches-to c r v x, matches-to c s v y)
-matches-to c empty v x = x
-matches-to c (star r) v x = repeats-map (Matches-under (on c) r) (Matches-under free (unclock-sequence c r)) (matches-to c r) x
-matches-to c (sequence-at r d) v x = matches-to d r v x
-
-pub matches-from : (c : Condition) (r : Sequence) (v : List Letter) → Matches-under free (unclock-sequence c r) v → Matches-under (on c) r v
-matches-from c (condition b) v (u, w, e, x, o) = rw e (tick-from c b w o x)
-matches-from c (concat r s) v (u, w, e, x, y) = (u, w, e, matches-from c r u x, matches-from c s w y)
-matches-from c (fusion r s) v (u, l, w, e, x, y) = (u, l, w, e, matches-from c r (u ++ (l ∷ [])) x, matches-from c s (l ∷ w) y)
-matches-from c (either r s) v (inl x) = inl (matches-from c r v x)
-matches-from c (either r s) v (inr x) = inr (matches-from c s v x)
-matches-from c (both r s) v (x, y) = (matches-from c r v x, matches-from c s v y)
-matches-from c empty v x = x
-matches-from c (star r) v x = repeats-map (Matches-under free (unclock-sequence c r)) (Matches-under (on c) r) (matches-from c r) x
-matches-from c (sequence-at r d) v x = matches-from d r v x
+pub removal-matches : (c : Condition) (r : Sequence) → Same (Matches-under (on c) r) (Matches-under free (unclock-sequence c r))
+removal-matches c (condition b) = λ v. ((λ (t, e). tick-to c b v t e), (λ (u, w, e, x, o). rw e (tick-from c b w o x)))
+removal-matches c (concat r s) = concat-same (removal-matches c r) (removal-matches c s)
+removal-matches c (fusion r s) = fusion-same (removal-matches c r) (removal-matches c s)
+removal-matches c (either r s) = λ v. iff-sum (removal-matches c r v) (removal-matches c s v)
+removal-matches c (both r s) = λ v. iff-both (removal-matches c r v) (removal-matches c s v)
+removal-matches c empty = λ v. (λ x. x, λ x. x)
+removal-matches c (star r) = star-same (removal-matches c r)
+removal-matches c (sequence-at r d) = removal-matches d r

@@ -21,7 +21,7 @@ nonempty-bottoms [] = tt
 nonempty-bottoms (l ∷ v) = tt
 
 -- the bare letters lie between those with bottoms and those with tops
-end-above : (v : List Letter) → with-tail v bottoms ⊑ with-tail v end
+pub end-above : (v : List Letter) → with-tail v bottoms ⊑ with-tail v end
 end-above v = subst (λ u. with-tail v bottoms ⊑ with-tail u end) (append-nil v) (bottoms-⊑ v [] end)
 
 end-below : (v : List Letter) → with-tail v end ⊑ with-tail v tops

@@ -17,3 +17,4 @@ pub mod Evaluation
 pub mod Numbered
 pub mod Named
 pub mod Pairwise
+pub mod Limits

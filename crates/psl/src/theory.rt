@@ -7,6 +7,7 @@ ghost use Rattle.psl.specs.Theorems.{Raised-satisfies-more, Mirror-turns-order
 ghost use Rattle.psl.specs.Theorems.{Abort-by-first-place, Weak-by-longest-prefix};
 ghost use Rattle.psl.specs.Theorems.{States-numbered, Automaton-accepts-matches, Tops-decided, Tops-enough};
 ghost use Rattle.psl.specs.Theorems.{Meanings-decidable, Clock-removal};
+ghost use Rattle.psl.specs.Limits.{Hypotheses-needed};
 
 // With letters raised a non-empty word satisfies at least as much under a clock; the mirror turns the order round.
 pub fn raised_satisfies_more()
@@ -68,4 +69,9 @@ pub fn meanings_decidable()
 // A clock written into a tree changes neither meaning nor verdict, nor how many states are needed.
 pub fn clock_removal()
     ensures { λ _. ⌜ Clock-removal ⌝ }
+{}
+
+// Left without their hypotheses the theorems fail: counterexamples.
+pub fn hypotheses_needed()
+    ensures { λ _. ⌜ Hypotheses-needed ⌝ }
 {}

@@ -58,8 +58,8 @@ pub single-right : (k : Clock) (r : Sequence) (l : Letter) → Matches-under k r
 single-right k (condition b) l = leaf-single-right k b l
 single-right k (concat r s) l =
     iff-trans (concat-one (Matches-under k r) (Matches-under k s) l)
-        (iff-or (null r && single k s l) (single k r l && null s)
-            (iff-and (null r) (single k s l) (null-right k r) (single-right k s l)) (iff-and (single k r l) (null s) (single-right k r l) (null-right k s)))
+    (iff-or (null r && single k s l) (single k r l && null s)
+    (iff-and (null r) (single k s l) (null-right k r) (single-right k s l)) (iff-and (single k r l) (null s) (single-right k r l) (null-right k s)))
 single-right k (fusion r s) l =
     iff-trans (fusion-one (Matches-under k r) (Matches-under k s) l) (iff-and (single k r l) (single k s l) (single-right k r l) (single-right k s l))
 single-right k (either r s) l = iff-or (single k r l) (single k s l) (single-right k r l) (single-right k s l)
@@ -72,8 +72,8 @@ pub last-right : (k : Clock) (r : Sequence) (l : Letter) (p : State k r) → Res
 last-right k (condition b) l p = leaf-last-right k b l p
 last-right k (concat r s) l (inl p) =
     iff-trans (concat-one (Rest k r p) (Matches-under k s) l)
-        (iff-or (final k r p && single k s l) (last k r l p && null s)
-            (iff-and (final k r p) (single k s l) (final-right k r p) (single-right k s l)) (iff-and (last k r l p) (null s) (last-right k r l p) (null-right k s)))
+    (iff-or (final k r p && single k s l) (last k r l p && null s)
+    (iff-and (final k r p) (single k s l) (final-right k r p) (single-right k s l)) (iff-and (last k r l p) (null s) (last-right k r l p) (null-right k s)))
 last-right k (concat r s) l (inr q) = last-right k s l q
 last-right k (fusion r s) l (inl p) =
     iff-trans (fusion-one (Rest k r p) (Matches-under k s) l) (iff-and (last k r l p) (single k s l) (last-right k r l p) (single-right k s l))
@@ -84,9 +84,9 @@ last-right k (both r s) l p = iff-and (last k r l (p .0)) (last k s l (p .1)) (l
 last-right k empty l p = absurd p
 last-right k (star r) l p =
     iff-trans (concat-one (Rest k r p) (Repeats (Matches-under k r)) l)
-        (iff-or (final k r p && single k r l) (last k r l p)
-            (iff-and (final k r p) (single k r l) (final-right k r p) (iff-trans (star-one (Matches-under k r) l) (single-right k r l)))
-            (λ t. last-right k r l p .0 (t .0), λ t. (last-right k r l p .1 t, done)))
+    (iff-or (final k r p && single k r l) (last k r l p)
+    (iff-and (final k r p) (single k r l) (final-right k r p) (iff-trans (star-one (Matches-under k r) l) (single-right k r l)))
+    (λ t. last-right k r l p .0 (t .0), λ t. (last-right k r l p .1 t, done)))
 last-right k (sequence-at r d) l p = last-right (on d) r l p
 
 -- the automaton's steps
@@ -117,7 +117,7 @@ step-right k (both r s) l p =
 step-right k empty l p = absurd p
 step-right k (star r) l p =
     again-derives l (step k r l p) (Rest k r) (Rest k r p) (Repeats (Matches-under k r)) (init k r l) (final k r p) (step-right k r l p)
-        (star-derives l (init k r l) (Rest k r) (Matches-under k r) (init-right k r l)) (final-right k r p)
+    (star-derives l (init k r l) (Rest k r) (Matches-under k r) (init-right k r l)) (final-right k r p)
 step-right k (sequence-at r d) l p = step-right (on d) r l p
 
 -- some state
@@ -154,15 +154,15 @@ any-out k (star r) P x = any-out k r P x
 any-out k (sequence-at r d) P x = any-out (on d) r P x
 
 -- the states after more letters
-pub run-there : (k : Clock) (r : Sequence) (S : State k r → Bool) (v w : List Letter) (p : State k r) → T (S p) → Rest k r p (v ++ w)
+run-there : (k : Clock) (r : Sequence) (S : State k r → Bool) (v w : List Letter) (p : State k r) → T (S p) → Rest k r p (v ++ w)
     → (q : State k r) × T (run k r S v q) × Rest k r q w
 run-there k r S [] w p x y = (p, x, y)
 run-there k r S (l ∷ v) w p x y =
     let z = step-right k r l p (v ++ w) .0 y in
     run-there k r (λ q. any k r (λ p. S p && step k r l p q)) v w (z .0)
-        (any-in k r (λ p′. S p′ && step k r l p′ (z .0)) p (and-in (S p) (step k r l p (z .0)) x (z .1))) (z .2)
+    (any-in k r (λ p′. S p′ && step k r l p′ (z .0)) p (and-in (S p) (step k r l p (z .0)) x (z .1))) (z .2)
 
-pub run-back : (k : Clock) (r : Sequence) (S : State k r → Bool) (v w : List Letter) (q : State k r) → T (run k r S v q) → Rest k r q w
+run-back : (k : Clock) (r : Sequence) (S : State k r → Bool) (v w : List Letter) (q : State k r) → T (run k r S v q) → Rest k r q w
     → (p : State k r) × T (S p) × Rest k r p (v ++ w)
 run-back k r S [] w q x y = (q, x, y)
 run-back k r S (l ∷ v) w q x y =
@@ -174,9 +174,10 @@ run-back k r S (l ∷ v) w q x y =
 -- after the first letter, the states and what completes a match from them
 pub after-right : (k : Clock) (r : Sequence) (l : Letter) (v w : List Letter)
     → Matches-under k r (l ∷ (v ++ w)) ↔ ((q : State k r) × T (run k r (init k r l) v q) × Rest k r q w)
-after-right k r l v w =
-    ( λ t. let z = init-right k r l (v ++ w) .0 t in run-there k r (init k r l) v w (z .0) (z .1) (z .2)
-    , λ t. init-right k r l (v ++ w) .1 (run-back k r (init k r l) v w (t .0) (t .1) (t .2)) )
+after-right k r l v w = (
+  λ t. let z = init-right k r l (v ++ w) .0 t in run-there k r (init k r l) v w (z .0) (z .1) (z .2),
+  λ t. init-right k r l (v ++ w) .1 (run-back k r (init k r l) v w (t .0) (t .1) (t .2)),
+)
 
 pub accepts-right : (k : Clock) (r : Sequence) (v : List Letter) → Matches-under k r v ↔ T (accepts k r v)
 accepts-right k r [] = null-right k r
@@ -186,13 +187,14 @@ accepts-right k r (l ∷ v) = (there, back)
     there t =
         let z = after-right k r l v [] .0 (subst (λ (w : List Letter). Matches-under k r (l ∷ w)) (sym (append-nil v)) t) in
         any-in k r (λ q. run k r (init k r l) v q && final k r q) (z .0)
-            (and-in (run k r (init k r l) v (z .0)) (final k r (z .0)) (z .1) (final-right k r (z .0) .0 (z .2)))
+        (and-in (run k r (init k r l) v (z .0)) (final k r (z .0)) (z .1) (final-right k r (z .0) .0 (z .2)))
+
     back : T (accepts k r (l ∷ v)) → Matches-under k r (l ∷ v)
     back t =
         let a = any-out k r (λ q. run k r (init k r l) v q && final k r q) t in
         let o = and-out (run k r (init k r l) v (a .0)) (final k r (a .0)) (a .1) in
         subst (λ (w : List Letter). Matches-under k r (l ∷ w)) (append-nil v)
-            (after-right k r l v [] .1 (a .0, o .0, final-right k r (a .0) .1 (o .1)))
+        (after-right k r l v [] .1 (a .0, o .0, final-right k r (a .0) .1 (o .1)))
 
 -- what completes a match from a state, letter by letter
 pub completes-right : (k : Clock) (r : Sequence) (p : State k r) (v : List Letter) → Rest k r p v ↔ Completes k r p v

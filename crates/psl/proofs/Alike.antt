@@ -42,16 +42,24 @@ alike-satisfies k (conjoined f g) w w′ h (a, b) = (alike-satisfies k f w w′ 
 alike-satisfies k (next f) w w′ h (i, j, t, p, u, s) =
     let a = from w (suc i) in
     let a′ = from w′ (suc i) in
-    let ha : Alike a a′ = alike-from (suc i) w w′ h in
-    (i, j, subst (Tick-under k) (alike-front (suc i) w w′ h) t, subst Present (ha j) p, subst (Tick-under k) (alike-front (suc j) a a′ ha) u,
-        alike-satisfies k f (from a j) (from a′ j) (alike-from j a a′ ha) s)
-alike-satisfies k (until f g) w w′ h (i, t, s, b) =
-    (i, subst (Ticks k) (h i) t, alike-satisfies k g (from w i) (from w′ i) (alike-from i w w′ h) s,
-        λ j q x. alike-satisfies k f (from w j) (from w′ j) (alike-from j w w′ h) (b j q (subst⁻¹ (Ticks k) (alike-mir w w′ h j) x)))
+    let ha : Alike a a′ = alike-from (suc i) w w′ h in (
+      i,
+      j,
+      subst (Tick-under k) (alike-front (suc i) w w′ h) t,
+      subst Present (ha j) p,
+      subst (Tick-under k) (alike-front (suc j) a a′ ha) u,
+      alike-satisfies k f (from a j) (from a′ j) (alike-from j a a′ ha) s,
+    )
+alike-satisfies k (until f g) w w′ h (i, t, s, b) = (
+  i,
+  subst (Ticks k) (h i) t,
+  alike-satisfies k g (from w i) (from w′ i) (alike-from i w w′ h) s,
+  λ j q x. alike-satisfies k f (from w j) (from w′ j) (alike-from j w w′ h) (b j q (subst⁻¹ (Ticks k) (alike-mir w w′ h j) x)),
+)
 alike-satisfies k (abort f b) w w′ h (inl s) = inl (alike-satisfies k f w w′ h s)
 alike-satisfies k (abort f b) w w′ h (inr (j, t, s)) =
     inr (j, subst (λ o. Holds o b) (h j) t, subst (λ v. Satisfies-under k f (with-tops v)) (alike-front j w w′ h) s)
 alike-satisfies k (implies r f) w w′ h s = λ j p m.
     alike-satisfies k f (from w j) (from w′ j) (alike-from j w w′ h)
-        (s j (subst⁻¹ Present (h j) p) (subst⁻¹ (Matches-under k r) (alike-front (suc j) (mir w) (mir w′) (alike-mir w w′ h)) m))
+    (s j (subst⁻¹ Present (h j) p) (subst⁻¹ (Matches-under k r) (alike-front (suc j) (mir w) (mir w′) (alike-mir w w′ h)) m))
 alike-satisfies k (formula-at f d) w w′ h s = alike-satisfies (on d) f w w′ h s

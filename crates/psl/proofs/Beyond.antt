@@ -30,7 +30,7 @@ from-drop v t zero = refl
 from-drop [] t (suc j) = from-bare t j
 from-drop (l ∷ v) t (suc j) = from-drop v t j
 
-pub drop-all : (v : List Letter) (j : ℕ) → length v ≤ j → drop j v ≡ []
+drop-all : (v : List Letter) (j : ℕ) → length v ≤ j → drop j v ≡ []
 drop-all [] zero h = refl
 drop-all [] (suc j) h = refl
 drop-all (l ∷ v) zero h = absurd (omega arith)

@@ -21,7 +21,7 @@ Bottomless (top ∷ v) = Bottomless v
 Bottomless (bottom ∷ v) = ⊥
 Bottomless (ordinary a b ∷ v) = Bottomless v
 
-pub bottomless-cons : (l : Letter) (b : Condition) (v : List Letter) → T (satisfies l b) → Bottomless v → Bottomless (l ∷ v)
+bottomless-cons : (l : Letter) (b : Condition) (v : List Letter) → T (satisfies l b) → Bottomless v → Bottomless (l ∷ v)
 bottomless-cons top b v h k = k
 bottomless-cons bottom b v h k = h
 bottomless-cons (ordinary x y) b v h k = k
@@ -31,19 +31,19 @@ bottomless-tail top v k = k
 bottomless-tail bottom v k = absurd k
 bottomless-tail (ordinary x y) v k = k
 
-pub bottomless-join : (u w : List Letter) → Bottomless u → Bottomless w → Bottomless (u ++ w)
+bottomless-join : (u w : List Letter) → Bottomless u → Bottomless w → Bottomless (u ++ w)
 bottomless-join [] w h k = k
 bottomless-join (top ∷ u) w h k = bottomless-join u w h k
 bottomless-join (bottom ∷ u) w h k = h
 bottomless-join (ordinary x y ∷ u) w h k = bottomless-join u w h k
 
-pub bottomless-front : (u w : List Letter) → Bottomless (u ++ w) → Bottomless u
+bottomless-front : (u w : List Letter) → Bottomless (u ++ w) → Bottomless u
 bottomless-front [] w h = tt
 bottomless-front (top ∷ u) w h = bottomless-front u w h
 bottomless-front (bottom ∷ u) w h = h
 bottomless-front (ordinary x y ∷ u) w h = bottomless-front u w h
 
-pub repeats-bottomless : (P : List Letter → Type 0) → ((u : List Letter) → P u → Bottomless u) → {u : List Letter} → Repeats P u → Bottomless u
+repeats-bottomless : (P : List Letter → Type 0) → ((u : List Letter) → P u → Bottomless u) → {u : List Letter} → Repeats P u → Bottomless u
 repeats-bottomless P live done = tt
 repeats-bottomless P live (more l u w e p q) = rw e (bottomless-join (l ∷ u) w (live (l ∷ u) p) (repeats-bottomless P live q))
 
@@ -51,7 +51,7 @@ bottomless-present : (x : Option Letter) (v : List Letter) → Bottomless (or-bo
 bottomless-present none v h = h
 bottomless-present (some l) v h = tt
 
-pub bottomless-place : (j : ℕ) (w : Word) → Bottomless (front w (suc j)) → Place w j
+bottomless-place : (j : ℕ) (w : Word) → Bottomless (front w (suc j)) → Place w j
 bottomless-place zero w h = bottomless-present (seen w zero) [] h
 bottomless-place (suc j) w h = bottomless-place j (rest w) (bottomless-tail (or-bottom (seen w zero)) (front (rest w) (suc j)) h)
 

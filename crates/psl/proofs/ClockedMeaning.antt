@@ -46,9 +46,14 @@ clock-satisfies c (weak-sequence r) w = weakly-same (clock-matches c r) w
 clock-satisfies c (negated f) w = negated-same (clock-satisfies c f) w
 clock-satisfies c (conjoined f g) w = iff-both (clock-satisfies c f w) (clock-satisfies c g w)
 clock-satisfies c (next f) w = (
-  (λ (j, k, t, u, s).
-      (j, k, tick-same c (front w (suc j)) .0 t, tick-place c k (from w (suc j)) u, tick-same c (front (from w (suc j)) (suc k)) .0 u,
-          clock-satisfies c f (from (from w (suc j)) k) .0 s)),
+  (λ (j, k, t, u, s). (
+    j,
+    k,
+    tick-same c (front w (suc j)) .0 t,
+    tick-place c k (from w (suc j)) u,
+    tick-same c (front (from w (suc j)) (suc k)) .0 u,
+    clock-satisfies c f (from (from w (suc j)) k) .0 s,
+  )),
   (λ (j, k, t, p, u, s).
       (j, k, tick-same c (front w (suc j)) .1 t, tick-same c (front (from w (suc j)) (suc k)) .1 u, clock-satisfies c f (from (from w (suc j)) k) .1 s)),
 )

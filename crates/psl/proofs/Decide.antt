@@ -38,9 +38,9 @@ reach? k r S d w =
     let v = w .letters in
     let t = w .tail in
     dec-iff (reach-parts k r S v t)
-        (dec-or
-            (dec-some-below (length v) (λ j. Matches-under k r (take (suc j) v) × S (from w j)) (λ j. dec-and (matches? k r (take (suc j) v)) (d (from w j))))
-            (dec-and (dec-T (is-tops t)) (dec-and (beyond? k r v) (d (with-tail [] t)))))
+    (dec-or
+    (dec-some-below (length v) (λ j. Matches-under k r (take (suc j) v) × S (from w j)) (λ j. dec-and (matches? k r (take (suc j) v)) (d (from w j))))
+    (dec-and (dec-T (is-tops t)) (dec-and (beyond? k r v) (d (with-tail [] t)))))
 
 starts? : (k : Clock) (r : Sequence) (w : Word) → Dec (Starts-under k r w)
 starts? k r w = dec-iff ((λ (j, p, m). (j, p, m, tt)), (λ (j, p, m, x). (j, p, m))) (reach? k r (λ x. Unit {0}) (λ x. yes tt) w)
@@ -74,30 +74,30 @@ mir-tick-past k w j h x =
     let e = length-map (w .letters) mirror in
     subst (λ n. Tick-under k (front (mir w) (suc n))) e (tick-past k (mir w .letters) (mir w .tail) j (omega (arith, e)) x)
 
--- S at the end of the first tick
-abbrev First : Clock → (Word → Type 0) → Word → Type 0
-First k S w = (j : ℕ) × (Place w j × (Tick-under k (front w (suc j)) × S (from w j)))
+-- a tick, and S where it ends
+abbrev Tick-then : Clock → (Word → Type 0) → Word → Type 0
+Tick-then k S w = (j : ℕ) × (Place w j × (Tick-under k (front w (suc j)) × S (from w j)))
 
-first? : (k : Clock) (S : Word → Type 0) → ((x : Word) → Dec (S x)) → (w : Word) → Dec (First k S w)
-first? k S d w =
+tick-then? : (k : Clock) (S : Word → Type 0) → ((x : Word) → Dec (S x)) → (w : Word) → Dec (Tick-then k S w)
+tick-then? k S d w =
     let n = length (w .letters) in
     dec-some n (λ j. Place w j × (Tick-under k (front w (suc j)) × S (from w j)))
-        (λ j. dec-and (place? (seen w j)) (dec-and (tick? k (front w (suc j))) (d (from w j))))
-        (λ j h (p, (t, s)). (place-below n j w h p, (tick-past k (w .letters) (w .tail) j h t, subst S (from-same w n j (omega arith) h) s)))
+    (λ j. dec-and (place? (seen w j)) (dec-and (tick? k (front w (suc j))) (d (from w j))))
+    (λ j h (p, (t, s)). (place-below n j w h p, (tick-past k (w .letters) (w .tail) j h t, subst S (from-same w n j (omega arith) h) s)))
 
 strong? : (k : Clock) (b : Condition) (w : Word) → Dec (Satisfies-under k (strong b) w)
 strong? k b w =
     dec-iff (
       (λ (j, t, h). (j, (holds-present (seen w j) b h, (t, subst⁻¹ (λ o. Holds o b) (first-of j w) h)))),
       (λ (j, (p, (t, h))). (j, t, subst (λ o. Holds o b) (first-of j w) h)),
-    ) (first? k (λ x. Holds (seen x zero) b) (λ x. holds? (seen x zero) b) w)
+    ) (tick-then? k (λ x. Holds (seen x zero) b) (λ x. holds? (seen x zero) b) w)
 
 weak? : (k : Clock) (b : Condition) (w : Word) → Dec (Satisfies-under k (weak b) w)
 weak? k b w =
     let n = length (w .letters) in
     dec-all n (λ j. Place w j → Tick-under k (front (mir w) (suc j)) → Holds (seen w j) b)
-        (λ j. dec-imp (place? (seen w j)) (dec-imp (tick? k (front (mir w) (suc j))) (holds? (seen w j) b)))
-        (λ j h s p t. subst⁻¹ (λ o. Holds o b) (seen-same w n j (omega arith) h) (s (place-below n j w h p) (mir-tick-past k w j h t)))
+    (λ j. dec-imp (place? (seen w j)) (dec-imp (tick? k (front (mir w) (suc j))) (holds? (seen w j) b)))
+    (λ j h s p t. subst⁻¹ (λ o. Holds o b) (seen-same w n j (omega arith) h) (s (place-below n j w h p) (mir-tick-past k w j h t)))
 
 weak-sequence? : (k : Clock) (r : Sequence) (w : Word) → Dec (Satisfies-under k (weak-sequence r) w)
 weak-sequence? k r w =
@@ -111,19 +111,19 @@ next? : (k : Clock) (S : Word → Type 0) → ((x : Word) → Dec (S x)) → (w 
 next? k S d w =
     let n = length (w .letters) in
     dec-iff ((λ (i, j, t, p, u, s). (i, (t, (j, (p, (u, s)))))), (λ (i, (t, (j, (p, (u, s))))). (i, j, t, p, u, s)))
-        (dec-some n (λ i. Tick-under k (front w (suc i)) × First k S (from w (suc i)))
-            (λ i. dec-and (tick? k (front w (suc i))) (first? k S d (from w (suc i))))
-            (λ i h (t, s). (tick-past k (w .letters) (w .tail) i h t, subst (First k S) (from-same w (suc n) (suc i) (omega arith) (omega arith)) s)))
+    (dec-some n (λ i. Tick-under k (front w (suc i)) × Tick-then k S (from w (suc i)))
+    (λ i. dec-and (tick? k (front w (suc i))) (tick-then? k S d (from w (suc i))))
+    (λ i h (t, s). (tick-past k (w .letters) (w .tail) i h t, subst (Tick-then k S) (from-same w (suc n) (suc i) (omega arith) (omega arith)) s)))
 
 until? : (k : Clock) (F G : Word → Type 0) → ((x : Word) → Dec (F x)) → ((x : Word) → Dec (G x)) → (w : Word)
     → Dec ((i : ℕ) × Ticks k (seen w i) × G (from w i) × ((j : ℕ) → j < i → Ticks k (seen (mir w) j) → F (from w j)))
 until? k F G df dg w =
     let n = length (w .letters) in
     dec-iff ((λ (i, t, s, b). (i, (t, (s, b)))), (λ (i, (t, (s, b))). (i, t, s, b)))
-        (dec-some n (λ i. Ticks k (seen w i) × (G (from w i) × ((j : ℕ) → j < i → Ticks k (seen (mir w) j) → F (from w j))))
-            (λ i. dec-and (ticks? k (seen w i))
-                (dec-and (dg (from w i)) (dec-all-below i (λ j. Ticks k (seen (mir w) j) → F (from w j)) (λ j. dec-imp (ticks? k (seen (mir w) j)) (df (from w j))))))
-            (λ i h (t, (s, b)). (subst (Ticks k) (seen-same w n i (omega arith) h) t, (subst G (from-same w n i (omega arith) h) s, λ j q. b j (omega arith)))))
+    (dec-some n (λ i. Ticks k (seen w i) × (G (from w i) × ((j : ℕ) → j < i → Ticks k (seen (mir w) j) → F (from w j))))
+    (λ i. dec-and (ticks? k (seen w i))
+    (dec-and (dg (from w i)) (dec-all-below i (λ j. Ticks k (seen (mir w) j) → F (from w j)) (λ j. dec-imp (ticks? k (seen (mir w) j)) (df (from w j))))))
+    (λ i h (t, (s, b)). (subst (Ticks k) (seen-same w n i (omega arith) h) t, (subst G (from-same w n i (omega arith) h) s, λ j q. b j (omega arith)))))
 
 -- where tops follow, so they do after each prefix that is long enough
 tops-alike : (v : List Letter) (m : ℕ) → length v ≤ m → Alike (with-tops (front (with-tops v) m)) (with-tops v)
@@ -140,7 +140,7 @@ abort-past k f b v end j h x s = absurd (subst (λ o. Holds o b) (seen-past v en
 abort-past k f b v bottoms j h x s = absurd (subst (λ o. Holds o b) (seen-past v bottoms j h) x)
 abort-past k f b v tops j h x s =
     alike-satisfies k f (with-tops (front (with-tops v) j)) (with-tops (front (with-tops v) (length v)))
-        (λ i. tops-alike v j h i ∙ sym (tops-alike v (length v) (omega arith) i)) s
+    (λ i. tops-alike v j h i ∙ sym (tops-alike v (length v) (omega arith) i)) s
 
 pub decide : (k : Clock) (f : Formula) (w : Word) → Dec (Satisfies-under k f w)
 decide k (strong b) w = strong? k b w
@@ -154,11 +154,11 @@ decide k (until f g) w = until? k (Satisfies-under k f) (Satisfies-under k g) (d
 decide k (abort f b) w =
     let n = length (w .letters) in
     dec-or (decide k f w)
-        (dec-iff ((λ (j, h, s). (j, (h, s))), (λ (j, (h, s)). (j, h, s)))
-            (dec-some n (λ j. Holds (seen w j) b × Satisfies-under k f (with-tops (front w j)))
-                (λ j. dec-and (holds? (seen w j) b) (decide k f (with-tops (front w j))))
-                (λ j h (x, s). (subst (λ o. Holds o b) (seen-same w n j (omega arith) h) x, abort-past k f b (w .letters) (w .tail) j h x s))))
+    (dec-iff ((λ (j, h, s). (j, (h, s))), (λ (j, (h, s)). (j, h, s)))
+    (dec-some n (λ j. Holds (seen w j) b × Satisfies-under k f (with-tops (front w j)))
+    (λ j. dec-and (holds? (seen w j) b) (decide k f (with-tops (front w j))))
+    (λ j h (x, s). (subst (λ o. Holds o b) (seen-same w n j (omega arith) h) x, abort-past k f b (w .letters) (w .tail) j h x s))))
 decide k (implies r f) w =
     dec-iff (implies-unbroken k r f w (λ j. decide k f (from w j)))
-        (dec-not (reach? k r (Breaks k r f w) (λ x. dec-not (decide k f (mir x))) (mir w)))
+    (dec-not (reach? k r (Breaks k r f w) (λ x. dec-not (decide k f (mir x))) (mir w)))
 decide k (formula-at f d) w = decide (on d) f w

@@ -1,141 +1,31 @@
--- How many tops suffice: what no run of at most so many tops completes, as there are states, none does.
+-- How many tops suffice: where no run of at most as many tops as there are states completes a match, none does.
 use mathlib.Core.Bool.{Bool, true, false, not, _&&_, _||_}
 use mathlib.Core.List.{List, [], _∷_, _++_}
 use mathlib.Core.Path.{_≡_, refl}
 use mathlib.Core.Logic.{_⊎_, inl, inr}
-use Prim.Native.Nat.{ℕ, zero, suc, pred, _+_, _*_, _≤_, _<_}
-use native.Mathlib.Nat.{add-mul, mul-assoc, mul-one}
+use Prim.Native.Nat.{ℕ, zero, suc, pred, _≤_, _<_}
+use native.Mathlib.Nat.{mul-one}
 use native.Mathlib.Omega.{arith}
 use lib.Dec.{T}
-use Rattle.psl.specs.Syntax.{Sequence, condition, concat, fusion, either, both, empty, star, sequence-at}
+use Rattle.psl.specs.Syntax.{Sequence}
 use Rattle.psl.specs.Letter.{Letter, top}
 use Rattle.psl.specs.Clocked.{more}
-use Rattle.psl.specs.Automaton.{waiting, over, Leaf-state, leaf-states, states, State, last, step, any, run-of-tops}
-use Rattle.psl.specs.OptionalClock.{Clock, free, on, Matches-under}
+use Rattle.psl.specs.Automaton.{states, State, last, step, any, run-of-tops}
+use Rattle.psl.specs.OptionalClock.{Clock, Matches-under}
 use Rattle.psl.proofs.Accept.{Rest, last-right, init-right, step-right, any-in, any-out, after-right}
 use Rattle.psl.proofs.Tests.{and-in, and-out, or-left, or-right, or-out, not-right, dec-T}
-
--- the sum of F over the states
-abbrev leaf-total : (k : Clock) → (Leaf-state k → ℕ) → ℕ
-leaf-total free F = F tt
-leaf-total (on c) F = F waiting + F over
-
-abbrev total : (k : Clock) → (r : Sequence) → (State k r → ℕ) → ℕ
-total k (condition b) F = leaf-total k F
-total k (concat r s) F = total k r (λ p. F (inl p)) + total k s (λ q. F (inr q))
-total k (fusion r s) F = total k r (λ p. F (inl p)) + total k s (λ q. F (inr q))
-total k (either r s) F = total k r (λ p. F (inl p)) + total k s (λ q. F (inr q))
-total k (both r s) F = total k r (λ p. total k s (λ q. F (p, q)))
-total k empty F = 0
-total k (star r) F = total k r F
-total k (sequence-at r d) F = total (on d) r F
-
-leaf-most : (k : Clock) (m : ℕ) (F : Leaf-state k → ℕ) → ((p : Leaf-state k) → F p ≤ m) → leaf-total k F ≤ leaf-states k * m
-leaf-most free m F h = omega (arith, h tt)
-leaf-most (on c) m F h = omega (arith, h waiting, h over)
-
-sum-most : (a b x y m : ℕ) → x ≤ a * m → y ≤ b * m → x + y ≤ (a + b) * m
-sum-most a b x y m h i = rw (add-mul a b m) (omega arith)
-
-total-most : (k : Clock) (r : Sequence) (m : ℕ) (F : State k r → ℕ) → ((p : State k r) → F p ≤ m) → total k r F ≤ states k r * m
-total-most k (condition b) m F h = leaf-most k m F h
-total-most k (concat r s) m F h =
-    sum-most (states k r) (states k s) _ _ m (total-most k r m (λ p. F (inl p)) (λ p. h (inl p))) (total-most k s m (λ q. F (inr q)) (λ q. h (inr q)))
-total-most k (fusion r s) m F h =
-    sum-most (states k r) (states k s) _ _ m (total-most k r m (λ p. F (inl p)) (λ p. h (inl p))) (total-most k s m (λ q. F (inr q)) (λ q. h (inr q)))
-total-most k (either r s) m F h =
-    sum-most (states k r) (states k s) _ _ m (total-most k r m (λ p. F (inl p)) (λ p. h (inl p))) (total-most k s m (λ q. F (inr q)) (λ q. h (inr q)))
-total-most k (both r s) m F h =
-    rw (mul-assoc (states k r) (states k s) m)
-        (total-most k r (states k s * m) (λ p. total k s (λ q. F (p, q))) (λ p. total-most k s m (λ q. F (p, q)) (λ q. h (p, q))))
-total-most k empty m F h = omega arith
-total-most k (star r) m F h = total-most k r m F h
-total-most k (sequence-at r d) m F h = total-most (on d) r m F h
-
-leaf-mono : (k : Clock) (F G : Leaf-state k → ℕ) → ((p : Leaf-state k) → F p ≤ G p) → leaf-total k F ≤ leaf-total k G
-leaf-mono free F G h = h tt
-leaf-mono (on c) F G h = omega (arith, h waiting, h over)
-
-total-mono : (k : Clock) (r : Sequence) (F G : State k r → ℕ) → ((p : State k r) → F p ≤ G p) → total k r F ≤ total k r G
-total-mono k (condition b) F G h = leaf-mono k F G h
-total-mono k (concat r s) F G h =
-    omega (arith, total-mono k r (λ p. F (inl p)) (λ p. G (inl p)) (λ p. h (inl p)), total-mono k s (λ q. F (inr q)) (λ q. G (inr q)) (λ q. h (inr q)))
-total-mono k (fusion r s) F G h =
-    omega (arith, total-mono k r (λ p. F (inl p)) (λ p. G (inl p)) (λ p. h (inl p)), total-mono k s (λ q. F (inr q)) (λ q. G (inr q)) (λ q. h (inr q)))
-total-mono k (either r s) F G h =
-    omega (arith, total-mono k r (λ p. F (inl p)) (λ p. G (inl p)) (λ p. h (inl p)), total-mono k s (λ q. F (inr q)) (λ q. G (inr q)) (λ q. h (inr q)))
-total-mono k (both r s) F G h =
-    total-mono k r (λ p. total k s (λ q. F (p, q))) (λ p. total k s (λ q. G (p, q))) (λ p. total-mono k s (λ q. F (p, q)) (λ q. G (p, q)) (λ q. h (p, q)))
-total-mono k empty F G h = omega arith
-total-mono k (star r) F G h = total-mono k r F G h
-total-mono k (sequence-at r d) F G h = total-mono (on d) r F G h
-
-leaf-more : (k : Clock) (F G : Leaf-state k → ℕ) → ((p : Leaf-state k) → F p ≤ G p) → (p : Leaf-state k) → F p < G p → leaf-total k F < leaf-total k G
-leaf-more free F G h p i = i
-leaf-more (on c) F G h waiting i = omega (arith, h over)
-leaf-more (on c) F G h over i = omega (arith, h waiting)
-
-total-more : (k : Clock) (r : Sequence) (F G : State k r → ℕ) → ((p : State k r) → F p ≤ G p) → (p : State k r) → F p < G p → total k r F < total k r G
-total-more k (condition b) F G h p i = leaf-more k F G h p i
-total-more k (concat r s) F G h (inl p) i =
-    omega (arith, total-more k r (λ p. F (inl p)) (λ p. G (inl p)) (λ p. h (inl p)) p i, total-mono k s (λ q. F (inr q)) (λ q. G (inr q)) (λ q. h (inr q)))
-total-more k (concat r s) F G h (inr q) i =
-    omega (arith, total-mono k r (λ p. F (inl p)) (λ p. G (inl p)) (λ p. h (inl p)), total-more k s (λ q. F (inr q)) (λ q. G (inr q)) (λ q. h (inr q)) q i)
-total-more k (fusion r s) F G h (inl p) i =
-    omega (arith, total-more k r (λ p. F (inl p)) (λ p. G (inl p)) (λ p. h (inl p)) p i, total-mono k s (λ q. F (inr q)) (λ q. G (inr q)) (λ q. h (inr q)))
-total-more k (fusion r s) F G h (inr q) i =
-    omega (arith, total-mono k r (λ p. F (inl p)) (λ p. G (inl p)) (λ p. h (inl p)), total-more k s (λ q. F (inr q)) (λ q. G (inr q)) (λ q. h (inr q)) q i)
-total-more k (either r s) F G h (inl p) i =
-    omega (arith, total-more k r (λ p. F (inl p)) (λ p. G (inl p)) (λ p. h (inl p)) p i, total-mono k s (λ q. F (inr q)) (λ q. G (inr q)) (λ q. h (inr q)))
-total-more k (either r s) F G h (inr q) i =
-    omega (arith, total-mono k r (λ p. F (inl p)) (λ p. G (inl p)) (λ p. h (inl p)), total-more k s (λ q. F (inr q)) (λ q. G (inr q)) (λ q. h (inr q)) q i)
-total-more k (both r s) F G h (p, q) i =
-    total-more k r (λ p. total k s (λ q. F (p, q))) (λ p. total k s (λ q. G (p, q)))
-        (λ p. total-mono k s (λ q. F (p, q)) (λ q. G (p, q)) (λ q. h (p, q))) p
-        (total-more k s (λ q. F (p, q)) (λ q. G (p, q)) (λ q. h (p, q)) q i)
-total-more k empty F G h p i = absurd p
-total-more k (star r) F G h p i = total-more k r F G h p i
-total-more k (sequence-at r d) F G h p i = total-more (on d) r F G h p i
-
--- how many states are in a set
-abbrev one : Bool → ℕ
-one true = 1
-one false = 0
-
-abbrev count : (k : Clock) (r : Sequence) → (State k r → Bool) → ℕ
-count k r S = total k r (λ p. one (S p))
-
-one-most : (b : Bool) → one b ≤ 1
-one-most true = omega arith
-one-most false = omega arith
-
-one-mono : (a b : Bool) → (T a → T b) → one a ≤ one b
-one-mono true true h = omega arith
-one-mono true false h = absurd (h tt)
-one-mono false b h = omega arith
-
-one-more : (a b : Bool) → T b → (T a → ⊥) → one a < one b
-one-more true b h n = absurd (n tt)
-one-more false true h n = omega arith
-one-more false false h n = absurd h
-
-count-most : (k : Clock) (r : Sequence) (S : State k r → Bool) → count k r S ≤ states k r
-count-most k r S = omega (arith, total-most k r 1 (λ p. one (S p)) (λ p. one-most (S p)), mul-one (states k r))
-
-count-more : (k : Clock) (r : Sequence) (S R : State k r → Bool) → ((p : State k r) → T (S p) → T (R p))
-    → (p : State k r) → T (R p) → (T (S p) → ⊥) → count k r S < count k r R
-count-more k r S R h p x n = total-more k r (λ p. one (S p)) (λ p. one (R p)) (λ p. one-mono (S p) (R p) (h p)) p (one-more (S p) (R p) x n)
+use Rattle.psl.proofs.Totals.{total-most, total-more, one, count, one-more, count-most, count-more}
 
 -- a set that the next one does not add to, or a state that it adds
 added : (k : Clock) (r : Sequence) (S R : State k r → Bool)
     → ((p : State k r) → T (R p) → T (S p)) ⊎ ((p : State k r) × T (R p) × (T (S p) → ⊥))
 added k r S R = elim (dec-T (any k r (λ p. R p && not (S p)))) [
-      | yes x ↦
-          let (p, y) = any-out k r (λ p. R p && not (S p)) x in
-          let (a, b) = and-out (R p) (not (S p)) y in
-          inr (p, a, not-right (S p) .0 b)
-      | no n ↦ inl (λ p x. surely (S p) (λ z. n (any-in k r (λ p. R p && not (S p)) p (and-in (R p) (not (S p)) x (not-right (S p) .1 z)))))
-    ]
+  | yes x ↦
+      let (p, y) = any-out k r (λ p. R p && not (S p)) x in
+      let (a, b) = and-out (R p) (not (S p)) y in
+      inr (p, a, not-right (S p) .0 b)
+  | no n ↦ inl (λ p x. surely (S p) (λ z. n (any-in k r (λ p. R p && not (S p)) p (and-in (R p) (not (S p)) x (not-right (S p) .1 z)))))
+]
   where
     surely : (b : Bool) → ((T b → ⊥) → ⊥) → T b
     surely true n = tt
@@ -143,7 +33,7 @@ added k r S R = elim (dec-T (any k r (λ p. R p && not (S p)))) [
 
 module _ (k : Clock) (r : Sequence) where
   -- some run of one up to n + 1 tops completes a match from the state
-  abbrev pub within : ℕ → State k r → Bool
+  abbrev within : ℕ → State k r → Bool
   within zero p = last k r top p
   within (suc n) p = within n p || any k r (λ q. step k r top p q && within n q)
 
@@ -163,7 +53,7 @@ module _ (k : Clock) (r : Sequence) where
           let (q, z) = any-out k r (λ q. step k r top p q && within (suc n) q) y in
           let (a, b) = and-out (step k r top p q) (within (suc n) q) z in
           or-right (within n p) (any k r (λ q. step k r top p q && within n q))
-              (any-in k r (λ q. step k r top p q && within n q) q (and-in (step k r top p q) (within n q) a (s q b)))
+          (any-in k r (λ q. step k r top p q && within n q) q (and-in (step k r top p q) (within n q) a (s q b)))
 
   grows : (n : ℕ) → (p : State k r) × T (within (suc n) p) × (T (within n p) → ⊥) → count k r (within n) < count k r (within (suc n))
   grows n (p, x, y) = count-more k r (within n) (within (suc n)) (further n) p x y
@@ -222,8 +112,8 @@ module _ (k : Clock) (r : Sequence) where
       let n = pred (states k r) in
       let (q, a, y) = step-right k r top p (run-of-tops (suc m)) .0 x in
       settled p
-          (or-right (within n p) (any k r (λ q. step k r top p q && within n q))
-              (any-in k r (λ q. step k r top p q && within n q) q (and-in (step k r top p q) (within n q) a (within-in m q y))))
+      (or-right (within n p) (any k r (λ q. step k r top p q && within n q))
+      (any-in k r (λ q. step k r top p q && within n q) q (and-in (step k r top p q) (within n q) a (within-in m q y))))
 
   some-state : State k r → 0 < states k r
   some-state p =

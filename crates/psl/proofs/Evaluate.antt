@@ -20,22 +20,22 @@ use Rattle.psl.specs.Order.{Nonempty, topped-tail}
 use Rattle.psl.proofs.Accept.{accepts-right}
 use Rattle.psl.proofs.Beyond.{seen-bare, from-drop, no-place-past}
 use Rattle.psl.proofs.FirstPlace.{Aborts, abort-none}
+use Rattle.psl.proofs.Live.{Stretches, extends-right}
 use Rattle.psl.proofs.Longest.{weak-longest}
 use Rattle.psl.proofs.Mirrors.{tail-twice}
 use Rattle.psl.proofs.Number.{some-in, some-out}
 use Rattle.psl.proofs.Reach.{Reach, Inside, Past, reach-parts, Breaks, mirrored-back, implies-unbroken}
 use Rattle.psl.proofs.Scan.{until-right, strong-right, weak-right, next-right}
-use Rattle.psl.proofs.Stretch.{Stretches, extends-right}
 use Rattle.psl.proofs.Tests.{and-in, and-out, iff-and, iff-or, iff-trans, iff-not, dec-T, dec-iff}
 use mathlib.Core.Bool.{cond as if}
 
 -- aborts
-pub data Cutting (b : Condition) (v : List Letter) (t : Tail) : Type 0 where
+data Cutting (b : Condition) (v : List Letter) (t : Tail) : Type 0 where
   nowhere-cut : ((j : ℕ) → Holds (seen (with-tail v t) j) b → ⊥) → cut b v ≡ v → cut-tail b v t ≡ t → Cutting b v t
   cut-at : (j : ℕ) → Holds (seen (with-tail v t) j) b → ((i : ℕ) → i < j → Holds (seen (with-tail v t) i) b → ⊥)
       → cut b v ≡ front (with-tail v t) j → cut-tail b v t ≡ tops → Cutting b v t
 
-pub cutting : (b : Condition) (v : List Letter) (t : Tail) → Cutting b v t
+cutting : (b : Condition) (v : List Letter) (t : Tail) → Cutting b v t
 cutting b [] end = nowhere-cut (λ j h. subst (λ (o : Option Letter). Holds o b) (seen-bare end j) h) refl refl
 cutting b [] tops = cut-at zero tt (λ i h x. absurd (omega arith)) refl refl
 cutting b [] bottoms = nowhere-cut (λ j h. subst (λ (o : Option Letter). Holds o b) (seen-bare bottoms j) h) refl refl
@@ -64,10 +64,10 @@ abort-right k f b t v a e = go (cutting b v t)
     go : Cutting b v t → Satisfies-under k (abort f b) (with-tail v t) ↔ T (eval k f (cut-tail b v t) (cut b v))
     go (nowhere-cut n p q) =
         iff-trans (abort-none k f b (with-tail v t) n)
-          (iff-trans (e t v) (subst (λ (z : Bool). T (eval k f t v) ↔ T z) (sym (ap₂ (eval k f) q p)) (λ x. x, λ x. x)))
+        (iff-trans (e t v) (subst (λ (z : Bool). T (eval k f t v) ↔ T z) (sym (ap₂ (eval k f) q p)) (λ x. x, λ x. x)))
     go (cut-at j h n p q) =
         iff-trans (a b (with-tail v t) j h n)
-          (iff-trans (e tops (front (with-tail v t) j)) (subst (λ (z : Bool). T (eval k f tops (front (with-tail v t) j)) ↔ T z) (sym (ap₂ (eval k f) q p)) (λ x. x, λ x. x)))
+        (iff-trans (e tops (front (with-tail v t) j)) (subst (λ (z : Bool). T (eval k f tops (front (with-tail v t) j)) ↔ T z) (sym (ap₂ (eval k f) q p)) (λ x. x, λ x. x)))
 
 -- sequences
 module _ (k : Clock) (r : Sequence) (long : Stretches k r) (S : Word → Type 0) (P : ℕ → Bool) (p : Bool) (v : List Letter) where
@@ -78,7 +78,7 @@ module _ (k : Clock) (r : Sequence) (long : Stretches k r) (S : Word → Type 0)
   inside-right t g = (
     (λ (j, h, (m, s)).
         some-in (length v) (λ j. accepts k r (take (suc j) v) && P j) j h
-            (and-in (accepts k r (take (suc j) v)) (P j) (accepts-right k r (take (suc j) v) .0 m) (g .0 j h .0 s))),
+        (and-in (accepts k r (take (suc j) v)) (P j) (accepts-right k r (take (suc j) v) .0 m) (g .0 j h .0 s))),
     (λ x.
         let (j, h, y) = some-out (length v) (λ j. accepts k r (take (suc j) v) && P j) x in
         let (a, b) = and-out (accepts k r (take (suc j) v)) (P j) y in
@@ -97,7 +97,7 @@ module _ (k : Clock) (r : Sequence) (long : Stretches k r) (S : Word → Type 0)
   reach-right : (t : Tail) → Given t → Reach k r S (with-tail v t) ↔ T (reach k r P (is-tops t && p) v)
   reach-right t g =
       iff-trans (reach-parts k r S v t)
-          (iff-or (some-below (length v) (λ j. accepts k r (take (suc j) v) && P j)) ((is-tops t && p) && extends k r v) (inside-right t g) (past-right t g))
+      (iff-or (some-below (length v) (λ j. accepts k r (take (suc j) v) && P j)) ((is-tops t && p) && extends k r v) (inside-right t g) (past-right t g))
 
 -- every word
 abbrev Anything : Word → Type 0
@@ -115,14 +115,14 @@ topped-is bottoms = refl
 starts-right : (k : Clock) (r : Sequence) → Stretches k r → (t : Tail) (v : List Letter) → Starts-under k r (with-tail v t) ↔ T (reach k r (λ j. true) (is-tops t) v)
 starts-right k r long t v =
     let e : Reach k r Anything (with-tail v t) ↔ T (reach k r (λ j. true) (is-tops t) v) =
-        subst (λ (b : Bool). Reach k r Anything (with-tail v t) ↔ T (reach k r (λ j. true) b v)) (and-true (is-tops t))
-          (reach-right k r long Anything (λ j. true) true v t ((λ j h. (λ x. tt, λ x. tt)), (λ x. tt, λ x. tt))) in
+    subst (λ (b : Bool). Reach k r Anything (with-tail v t) ↔ T (reach k r (λ j. true) b v)) (and-true (is-tops t))
+    (reach-right k r long Anything (λ j. true) true v t ((λ j h. (λ x. tt, λ x. tt)), (λ x. tt, λ x. tt))) in
     (λ x. e .0 (x .0, x .1, x .2, tt), λ x. let y = e .1 x in (y .0, y .1, y .2))
 
 weakly : (k : Clock) (r : Sequence) → Stretches k r → (t : Tail) (v : List Letter) → Nonempty (with-tail v t) → Satisfies-under k (weak-sequence r) (with-tail v t) ↔ T (reach k r (λ j. true) (is-tops t || is-end t) v)
 weakly k r long t v full =
     iff-trans (weak-longest k r (with-tail v t) full)
-      (subst (λ (b : Bool). Starts-under k r (with-tail v (topped-tail t)) ↔ T (reach k r (λ j. true) b v)) (topped-is t) (starts-right k r long (topped-tail t) v))
+    (subst (λ (b : Bool). Starts-under k r (with-tail v (topped-tail t)) ↔ T (reach k r (λ j. true) b v)) (topped-is t) (starts-right k r long (topped-tail t) v))
 
 weak-sequence-right : (k : Clock) (r : Sequence) → Stretches k r → (t : Tail) (v : List Letter) → Satisfies-under k (weak-sequence r) (with-tail v t) ↔ T (eval k (weak-sequence r) t v)
 weak-sequence-right k r long end [] = (λ x. tt, λ x j p. absurd (no-place-past [] j (omega arith) p))
@@ -140,7 +140,7 @@ module _ (k : Clock) (r : Sequence) (long : Stretches k r) (f : Formula) (t : Ta
   breaks-right : (j : ℕ) → Breaks k r f (with-tail v t) (from (mir (with-tail v t)) j) ↔ T (not (eval k f t (drop j v)))
   breaks-right j =
       iff-not (eval k f t (drop j v))
-          (subst (λ (x : Word). Satisfies-under k f x ↔ T (eval k f t (drop j v))) (sym (mirrored-back k r f (with-tail v t) j)) (from-right j))
+      (subst (λ (x : Word). Satisfies-under k f x ↔ T (eval k f t (drop j v))) (sym (mirrored-back k r f (with-tail v t) j)) (from-right j))
 
   bare-right : Breaks k r f (with-tail v t) (with-tail [] (mirror-tail t)) ↔ T (not (eval k f t []))
   bare-right = iff-not (eval k f t []) (subst (λ (s : Tail). Satisfies-under k f (with-tail [] s) ↔ T (eval k f t [])) (sym (tail-twice t)) (e []))
@@ -148,9 +148,9 @@ module _ (k : Clock) (r : Sequence) (long : Stretches k r) (f : Formula) (t : Ta
   implies-right : Satisfies-under k (implies r f) (with-tail v t) ↔ T (eval k (implies r f) t v)
   implies-right =
       iff-trans (implies-unbroken k r f (with-tail v t) (λ j. dec-iff (from-right j) (dec-T (eval k f t (drop j v)))))
-          (iff-not (reach k r (λ j. not (eval k f t (drop j v))) (is-tops (mirror-tail t) && not (eval k f t [])) (map mirror v))
-              (reach-right k r long (Breaks k r f (with-tail v t)) (λ j. not (eval k f t (drop j v))) (not (eval k f t [])) (map mirror v) (mirror-tail t)
-                  ((λ j h. breaks-right j), bare-right)))
+      (iff-not (reach k r (λ j. not (eval k f t (drop j v))) (is-tops (mirror-tail t) && not (eval k f t [])) (map mirror v))
+      (reach-right k r long (Breaks k r f (with-tail v t)) (λ j. not (eval k f t (drop j v))) (not (eval k f t [])) (map mirror v) (mirror-tail t)
+      ((λ j h. breaks-right j), bare-right)))
 
 -- what the program needs of a formula: its sequences stretch, and its aborts are decided by their first places
 abbrev pub Fit : Clock → Formula → Type 0

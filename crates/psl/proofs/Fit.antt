@@ -17,8 +17,8 @@ use Rattle.psl.proofs.ClockedMeaning.{clock-satisfies}
 use Rattle.psl.proofs.Evaluate.{Fit, eval-right}
 use Rattle.psl.proofs.FirstPlace.{Aborts, clock-aborts}
 use Rattle.psl.proofs.Images.{tame-satisfies}
+use Rattle.psl.proofs.Live.{clock-stretches, ticked-stretches}
 use Rattle.psl.proofs.RemovalFormulas.{clock-removal}
-use Rattle.psl.proofs.Stretch.{clock-stretches, ticked-stretches}
 use Rattle.psl.proofs.Tests.{iff-trans, iff-sym}
 
 pub clock-fit : (c : Condition) (f : Formula) → Fit (on c) f

@@ -33,7 +33,7 @@ free-next f w = (to, λ s. (zero, zero, tt, s .0, tt, s .1))
     to (zero, suc k, t, p, u, s) = absurd (u .0)
     to (suc j, k, t, p, u, s) = absurd (t .0)
 
-pub present-ticks : (x : Option Letter) → Present x → Ticks free x
+present-ticks : (x : Option Letter) → Present x → Ticks free x
 present-ticks none p = p
 present-ticks (some l) p = tt
 

@@ -69,7 +69,7 @@ ticked-same : (r : Sequence) → T (ticked r) → erase-sequence r ≡ r
 ticked-same r t = clock-free-same r (ticked-clock-free r t)
 
 -- nothing is erased from a tame formula, and images are tame
-pub tame-same : (f : Formula) → Tame f → erase f ≡ f
+tame-same : (f : Formula) → Tame f → erase f ≡ f
 tame-same (strong b) t = refl
 tame-same (weak b) t = refl
 tame-same (strong-sequence r) t = ap strong-sequence (ticked-same r t)

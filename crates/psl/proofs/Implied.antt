@@ -24,12 +24,12 @@ use Rattle.psl.proofs.Decide.{matches?, decide}
 use Rattle.psl.proofs.Enough.{tops-enough, tops-after}
 use Rattle.psl.proofs.FirstPlace.{abort-none, clock-aborts}
 use Rattle.psl.proofs.Images.{image-ticked, ticked-clock-free, image-tame, tame-satisfies, clock-free-matches, image-size}
+use Rattle.psl.proofs.Live.{Stretches, clock-stretches, ticked-stretches, extends-right}
 use Rattle.psl.proofs.Longest.{weak-longest}
 use Rattle.psl.proofs.Number.{number-below, state-at, number-apart}
 use Rattle.psl.proofs.RemovalFormulas.{clock-removal}
 use Rattle.psl.proofs.RemovalMatches.{removal-matches}
 use Rattle.psl.proofs.RunsOfTops.{late-some}
-use Rattle.psl.proofs.Stretch.{Stretches, clock-stretches, ticked-stretches, extends-right}
 use Rattle.psl.proofs.Tests.{iff-trans, iff-sym, dec-iff}
 use Rattle.psl.proofs.UnclockedMeaning.{erase-sequence, erase, free-matches, free-satisfies}
 use Rattle.psl.specs.Table.{size}

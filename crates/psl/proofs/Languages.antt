@@ -86,6 +86,7 @@ concat-one L K l = (λ t. there (concat-out L K l [] t), back)
     there : (L [] × K (l ∷ [])) ⊎ Concat (after l L) K [] → (L [] × K (l ∷ [])) ⊎ (L (l ∷ []) × K [])
     there (inl x) = inl x
     there (inr x) = inr (concat-nil-out (after l L) K x)
+
     back : (L [] × K (l ∷ [])) ⊎ (L (l ∷ []) × K []) → Concat L K (l ∷ [])
     back (inl x) = concat-skip L K l [] (x .0) (x .1)
     back (inr x) = concat-cons L K l [] (concat-nil-in (after l L) K (x .0) (x .1))
@@ -105,14 +106,16 @@ repeats-out P v (more l u w e x y) = inr (l, u, w, e, x, y)
 
 pub star-out : (P : Lang) (l : Letter) (v : List Letter) → Repeats P (l ∷ v) → Concat (after l P) (Repeats P) v
 star-out P l v t =
-    elim (repeats-out P (l ∷ v) t)
-    [ inl e ↦ nil-cons (sym e)
-    | inr h ↦ (h .1, h .2, tail-eq (h .3), subst (λ (n : Letter). P (n ∷ h .1)) (sym (head-eq (h .3))) (h .4), h .5) ]
+    elim (repeats-out P (l ∷ v) t) [
+      | inl e ↦ nil-cons (sym e)
+      | inr h ↦ (h .1, h .2, tail-eq (h .3), subst (λ (n : Letter). P (n ∷ h .1)) (sym (head-eq (h .3))) (h .4), h .5)
+    ]
 
 pub star-in : (P : Lang) (l : Letter) (v : List Letter) → Concat (after l P) (Repeats P) v → Repeats P (l ∷ v)
 star-in P l v t = more l (t .0) (t .1) (ap (λ (z : List Letter). l ∷ z) (t .2)) (t .3) (t .4)
 
 pub star-one : (P : Lang) (l : Letter) → Repeats P (l ∷ []) ↔ P (l ∷ [])
-star-one P l =
-    ( λ t. concat-nil-out (after l P) (Repeats P) (star-out P l [] t) .0
-    , λ x. star-in P l [] (concat-nil-in (after l P) (Repeats P) x done) )
+star-one P l = (
+  λ t. concat-nil-out (after l P) (Repeats P) (star-out P l [] t) .0,
+  λ x. star-in P l [] (concat-nil-in (after l P) (Repeats P) x done),
+)

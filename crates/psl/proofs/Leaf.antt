@@ -28,6 +28,7 @@ leaf-derives free b l v = (there v, λ t. back v (t .1) (t .2))
     there : (v : List Letter) → Leaves free b (l ∷ v) → (q : Unit {0}) × T (satisfies l b) × (v ≡ [])
     there [] x = (tt, x .1, refl)
     there (m ∷ v) x = absurd (x .0 .0)
+
     back : (v : List Letter) → T (satisfies l b) → v ≡ [] → Leaves free b (l ∷ v)
     back [] x e = (tt, x)
     back (m ∷ v) x e = nil-cons (sym e)
@@ -36,6 +37,7 @@ leaf-derives (on c) b l v = (there v, λ t. back (t .0) v (t .1) (t .2))
     there : (v : List Letter) → Leaves (on c) b (l ∷ v) → (q : Leaf) × T (leaf-init (on c) b l q) × leaf-rest (on c) b q v
     there [] x = (over, and-in (satisfies l c) (satisfies l b) (x .0) (x .1), refl)
     there (m ∷ v) x = (waiting, x .0 .0, (x .0 .1, x .1))
+
     back : (q : Leaf) (v : List Letter) → T (leaf-init (on c) b l q) → leaf-rest (on c) b q v → Leaves (on c) b (l ∷ v)
     back waiting [] x y = absurd (y .0)
     back waiting (m ∷ v) x y = ((x, y .0), y .1)

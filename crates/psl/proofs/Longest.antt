@@ -22,13 +22,13 @@ topped-first [] tops p = same
 topped-first [] bottoms p = same
 topped-first (l ∷ v) t p = same
 
-pub topped-⊑ : (j : ℕ) (w : Word) → Place w j → topped w ⊑ with-tops (front w (suc j))
+topped-⊑ : (j : ℕ) (w : Word) → Place w j → topped w ⊑ with-tops (front w (suc j))
 topped-⊑ j w p zero = topped-first (w .letters) (w .tail) (place-first j w p)
 topped-⊑ zero w p (suc i) = tops-most i (rest (topped w))
 topped-⊑ (suc j) w p (suc i) = topped-⊑ j (rest w) p i
 
 -- a match ends before the first bottom
-pub bottomless-same : (v : List Letter) (n : ℕ) → Bottomless (front (with-tops (v ++ (bottom ∷ []))) n) → front (with-tops (v ++ (bottom ∷ []))) n ≡ front (with-tail v bottoms) n
+bottomless-same : (v : List Letter) (n : ℕ) → Bottomless (front (with-tops (v ++ (bottom ∷ []))) n) → front (with-tops (v ++ (bottom ∷ []))) n ≡ front (with-tail v bottoms) n
 bottomless-same v zero h = refl
 bottomless-same [] (suc n) h = absurd h
 bottomless-same (l ∷ v) (suc n) h = ap (λ u. l ∷ u) (bottomless-same v n (bottomless-tail l (front (with-tops (v ++ (bottom ∷ []))) n) h))

@@ -27,7 +27,7 @@ tail-twice end = refl
 tail-twice tops = refl
 tail-twice bottoms = refl
 
-pub map-twice : (v : List Letter) → map mirror (map mirror v) ≡ v
+map-twice : (v : List Letter) → map mirror (map mirror v) ≡ v
 map-twice [] = refl
 map-twice (l ∷ v) = ap₂ (λ (m : Letter) (u : List Letter). m ∷ u) (mirror-twice l) (map-twice v)
 

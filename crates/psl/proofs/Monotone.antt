@@ -56,17 +56,17 @@ pub ticks-holds : (c : Condition) (x : Option Letter) → Ticks (on c) x → Hol
 ticks-holds c none h = h
 ticks-holds c (some l) h = h
 
-pub nonempty-from : (k : ℕ) (w : Word) → Place w k → Nonempty (from w k)
+nonempty-from : (k : ℕ) (w : Word) → Place w k → Nonempty (from w k)
 nonempty-from k w h = rw (first-of k w) h
 
-pub nonempty-holds : (k : ℕ) (w : Word) (b : Condition) → Holds (seen w k) b → Nonempty (from w k)
+nonempty-holds : (k : ℕ) (w : Word) (b : Condition) → Holds (seen w k) b → Nonempty (from w k)
 nonempty-holds k w b h = nonempty-from k w (holds-present (seen w k) b h)
 
 pub nonempty-tops : (v : List Letter) → Nonempty (with-tops v)
 nonempty-tops [] = tt
 nonempty-tops (l ∷ v) = tt
 
-pub nonempty-mir : (w : Word) → Nonempty w → Nonempty (mir w)
+nonempty-mir : (w : Word) → Nonempty w → Nonempty (mir w)
 nonempty-mir w p = place-in-mir w zero p
 
 above-none : {y : Option Letter} → Below none y → Present y → y ≡ some top
@@ -89,7 +89,7 @@ cons-⊑ l m u v h k zero = h
 cons-⊑ l m u v h k (suc i) = k i
 
 -- for each prefix of the upper word, one of the lower word below it
-pub prefix-below : (j : ℕ) (w w′ : Word) → w ⊑ w′ → Nonempty w → Place w′ j
+prefix-below : (j : ℕ) (w w′ : Word) → w ⊑ w′ → Nonempty w → Place w′ j
     → (n : ℕ) × Place w n × (with-tops (front w (suc n)) ⊑ with-tops (front w′ (suc j)))
 prefix-below zero w w′ h f p = (zero, f, tops-raised (front w 1) (front w′ 1) (front-raised 1 w w′ h))
 prefix-below (suc j) w w′ h f p =
@@ -101,7 +101,7 @@ prefix-below (suc j) w w′ h f p =
           (zero, f, cons-⊑ (or-bottom (seen w zero)) (or-bottom (seen w′ zero)) [] (front (rest w′) (suc j)) (below-or-bottom (h zero)) (tops-above j (rest w) (rest w′) (λ i. h (suc i)) n p))
     ]
 
-pub tops-⊑ : (n : ℕ) (w w′ : Word) → w ⊑ w′ → with-tops (front w n) ⊑ with-tops (front w′ n)
+tops-⊑ : (n : ℕ) (w w′ : Word) → w ⊑ w′ → with-tops (front w n) ⊑ with-tops (front w′ n)
 tops-⊑ n w w′ h = tops-raised (front w n) (front w′ n) (front-raised n w w′ h)
 
 pub satisfies-⊑ : (c : Condition) (f : Formula) (w w′ : Word) → w ⊑ w′ → Nonempty w → Nonempty w′ → Satisfies-under (on c) f w → Satisfies-under (on c) f w′

@@ -47,9 +47,10 @@ pair-below n m a b h k =
 pub some-in : (n : ℕ) (P : ℕ → Bool) (k : ℕ) → k < n → T (P k) → T (some-below n P)
 some-in zero P k h x = absurd (omega arith)
 some-in (suc n) P k h x =
-    elim (below-or k n)
-    [ inl i ↦ or-left (some-below n P) (P n) (some-in n P k i x)
-    | inr i ↦ let e : k ≡ n = omega arith in or-right (some-below n P) (P n) (subst (λ (j : ℕ). T (P j)) e x) ]
+    elim (below-or k n) [
+      | inl i ↦ or-left (some-below n P) (P n) (some-in n P k i x)
+      | inr i ↦ let e : k ≡ n = omega arith in or-right (some-below n P) (P n) (subst (λ (j : ℕ). T (P j)) e x)
+    ]
 
 pub some-out : (n : ℕ) (P : ℕ → Bool) → T (some-below n P) → (k : ℕ) × (k < n) × T (P k)
 some-out zero P x = absurd x
@@ -121,7 +122,7 @@ final-numbered c (either r s) (inl p) = sum-left (states c r) (numbered-final c 
 final-numbered c (either r s) (inr q) = sum-right (states c r) (numbered-final c r) (numbered-final c s) (number c s q) ∙ final-numbered c s q
 final-numbered c (both r s) p =
     pair-at (states c s) (λ p q. numbered-final c r p && numbered-final c s q) (number c r (p .0)) (number c s (p .1)) (number-below c s (p .1))
-        ∙ ap₂ _&&_ (final-numbered c r (p .0)) (final-numbered c s (p .1))
+    ∙ ap₂ _&&_ (final-numbered c r (p .0)) (final-numbered c s (p .1))
 final-numbered c empty p = absurd p
 final-numbered c (star r) p = final-numbered c r p
 final-numbered c (sequence-at r d) p = final-numbered (on d) r p
@@ -130,7 +131,7 @@ pub last-numbered : (c : Clock) (r : Sequence) (l : Letter) (p : State c r) → 
 last-numbered c (condition b) l p = leaf-last-numbered c b l p
 last-numbered c (concat r s) l (inl p) =
     sum-left (states c r) (λ p. (numbered-final c r p && single c s l) || (numbered-last c r l p && null s)) (numbered-last c s l) (number c r p) (number-below c r p)
-        ∙ ap₂ (λ (x y : Bool). (x && single c s l) || (y && null s)) (final-numbered c r p) (last-numbered c r l p)
+    ∙ ap₂ (λ (x y : Bool). (x && single c s l) || (y && null s)) (final-numbered c r p) (last-numbered c r l p)
 last-numbered c (concat r s) l (inr q) =
     sum-right (states c r) (λ p. (numbered-final c r p && single c s l) || (numbered-last c r l p && null s)) (numbered-last c s l) (number c s q) ∙ last-numbered c s l q
 last-numbered c (fusion r s) l (inl p) =
@@ -140,7 +141,7 @@ last-numbered c (either r s) l (inl p) = sum-left (states c r) (numbered-last c 
 last-numbered c (either r s) l (inr q) = sum-right (states c r) (numbered-last c r l) (numbered-last c s l) (number c s q) ∙ last-numbered c s l q
 last-numbered c (both r s) l p =
     pair-at (states c s) (λ p q. numbered-last c r l p && numbered-last c s l q) (number c r (p .0)) (number c s (p .1)) (number-below c s (p .1))
-        ∙ ap₂ _&&_ (last-numbered c r l (p .0)) (last-numbered c s l (p .1))
+    ∙ ap₂ _&&_ (last-numbered c r l (p .0)) (last-numbered c s l (p .1))
 last-numbered c empty l p = absurd p
 last-numbered c (star r) l p = ap₂ (λ (x y : Bool). (x && single c r l) || y) (final-numbered c r p) (last-numbered c r l p)
 last-numbered c (sequence-at r d) l p = last-numbered (on d) r l p
@@ -149,7 +150,7 @@ pub live-numbered : (c : Clock) (r : Sequence) (p : State c r) → numbered-live
 live-numbered c (condition b) p = leaf-live-numbered c p
 live-numbered c (concat r s) (inl p) =
     sum-left (states c r) (λ p. (numbered-final c r p && live-start s) || (numbered-live c r p && (null s || live-start s))) (numbered-live c s) (number c r p) (number-below c r p)
-        ∙ ap₂ (λ (x y : Bool). (x && live-start s) || (y && (null s || live-start s))) (final-numbered c r p) (live-numbered c r p)
+    ∙ ap₂ (λ (x y : Bool). (x && live-start s) || (y && (null s || live-start s))) (final-numbered c r p) (live-numbered c r p)
 live-numbered c (concat r s) (inr q) =
     sum-right (states c r) (λ p. (numbered-final c r p && live-start s) || (numbered-live c r p && (null s || live-start s))) (numbered-live c s) (number c s q) ∙ live-numbered c s q
 live-numbered c (fusion r s) (inl p) =
@@ -159,7 +160,7 @@ live-numbered c (either r s) (inl p) = sum-left (states c r) (numbered-live c r)
 live-numbered c (either r s) (inr q) = sum-right (states c r) (numbered-live c r) (numbered-live c s) (number c s q) ∙ live-numbered c s q
 live-numbered c (both r s) p =
     pair-at (states c s) (λ p q. numbered-live c r p && numbered-live c s q) (number c r (p .0)) (number c s (p .1)) (number-below c s (p .1))
-        ∙ ap₂ _&&_ (live-numbered c r (p .0)) (live-numbered c s (p .1))
+    ∙ ap₂ _&&_ (live-numbered c r (p .0)) (live-numbered c s (p .1))
 live-numbered c empty p = absurd p
 live-numbered c (star r) p = ap₂ (λ (x y : Bool). (x && live-start r) || y) (final-numbered c r p) (live-numbered c r p)
 live-numbered c (sequence-at r d) p = live-numbered (on d) r p
@@ -188,7 +189,7 @@ init-numbered c (fusion r s) l q = sum-into c r s (single c r l) (single c r l) 
 init-numbered c (either r s) l q = sum-into c r s true true (numbered-init c r l) (init c r l) (numbered-init c s l) (init c s l) refl (init-numbered c r l) (init-numbered c s l) q
 init-numbered c (both r s) l p =
     pair-at (states c s) (λ p q. numbered-init c r l p && numbered-init c s l q) (number c r (p .0)) (number c s (p .1)) (number-below c s (p .1))
-        ∙ ap₂ _&&_ (init-numbered c r l (p .0)) (init-numbered c s l (p .1))
+    ∙ ap₂ _&&_ (init-numbered c r l (p .0)) (init-numbered c s l (p .1))
 init-numbered c empty l q = absurd q
 init-numbered c (star r) l q = init-numbered c r l q
 init-numbered c (sequence-at r d) l q = init-numbered (on d) r l q
@@ -197,26 +198,26 @@ pub step-numbered : (c : Clock) (r : Sequence) (l : Letter) (p q : State c r) �
 step-numbered c (condition b) l p q = leaf-move-numbered c b l p q
 step-numbered c (concat r s) l (inl p) q =
     sum-left (states c r) (λ p. at-sum (states c r) (numbered-step c r l p) (λ q. numbered-final c r p && numbered-init c s l q) (number c (concat r s) q)) (λ p. at-sum (states c r) (λ q. false) (numbered-step c s l p) (number c (concat r s) q)) (number c r p) (number-below c r p)
-        ∙ sum-into c r s (numbered-final c r (number c r p)) (final c r p) (numbered-step c r l (number c r p)) (step c r l p) (numbered-init c s l) (init c s l) (final-numbered c r p) (step-numbered c r l p) (init-numbered c s l) q
+    ∙ sum-into c r s (numbered-final c r (number c r p)) (final c r p) (numbered-step c r l (number c r p)) (step c r l p) (numbered-init c s l) (init c s l) (final-numbered c r p) (step-numbered c r l p) (init-numbered c s l) q
 step-numbered c (concat r s) l (inr p) q =
     sum-right (states c r) (λ p. at-sum (states c r) (numbered-step c r l p) (λ q. numbered-final c r p && numbered-init c s l q) (number c (concat r s) q)) (λ p. at-sum (states c r) (λ q. false) (numbered-step c s l p) (number c (concat r s) q)) (number c s p)
-        ∙ sum-on-right c r s (numbered-step c s l (number c s p)) (step c s l p) (step-numbered c s l p) q
+    ∙ sum-on-right c r s (numbered-step c s l (number c s p)) (step c s l p) (step-numbered c s l p) q
 step-numbered c (fusion r s) l (inl p) q =
     sum-left (states c r) (λ p. at-sum (states c r) (numbered-step c r l p) (λ q. numbered-last c r l p && numbered-init c s l q) (number c (concat r s) q)) (λ p. at-sum (states c r) (λ q. false) (numbered-step c s l p) (number c (concat r s) q)) (number c r p) (number-below c r p)
-        ∙ sum-into c r s (numbered-last c r l (number c r p)) (last c r l p) (numbered-step c r l (number c r p)) (step c r l p) (numbered-init c s l) (init c s l) (last-numbered c r l p) (step-numbered c r l p) (init-numbered c s l) q
+    ∙ sum-into c r s (numbered-last c r l (number c r p)) (last c r l p) (numbered-step c r l (number c r p)) (step c r l p) (numbered-init c s l) (init c s l) (last-numbered c r l p) (step-numbered c r l p) (init-numbered c s l) q
 step-numbered c (fusion r s) l (inr p) q =
     sum-right (states c r) (λ p. at-sum (states c r) (numbered-step c r l p) (λ q. numbered-last c r l p && numbered-init c s l q) (number c (concat r s) q)) (λ p. at-sum (states c r) (λ q. false) (numbered-step c s l p) (number c (concat r s) q)) (number c s p)
-        ∙ sum-on-right c r s (numbered-step c s l (number c s p)) (step c s l p) (step-numbered c s l p) q
+    ∙ sum-on-right c r s (numbered-step c s l (number c s p)) (step c s l p) (step-numbered c s l p) q
 step-numbered c (either r s) l (inl p) q =
     sum-left (states c r) (λ p. at-sum (states c r) (numbered-step c r l p) (λ q. false) (number c (concat r s) q)) (λ p. at-sum (states c r) (λ q. false) (numbered-step c s l p) (number c (concat r s) q)) (number c r p) (number-below c r p)
-        ∙ sum-on-left c r s (numbered-step c r l (number c r p)) (step c r l p) (step-numbered c r l p) q
+    ∙ sum-on-left c r s (numbered-step c r l (number c r p)) (step c r l p) (step-numbered c r l p) q
 step-numbered c (either r s) l (inr p) q =
     sum-right (states c r) (λ p. at-sum (states c r) (numbered-step c r l p) (λ q. false) (number c (concat r s) q)) (λ p. at-sum (states c r) (λ q. false) (numbered-step c s l p) (number c (concat r s) q)) (number c s p)
-        ∙ sum-on-right c r s (numbered-step c s l (number c s p)) (step c s l p) (step-numbered c s l p) q
+    ∙ sum-on-right c r s (numbered-step c s l (number c s p)) (step c s l p) (step-numbered c s l p) q
 step-numbered c (both r s) l p q =
     pair-at (states c s) (λ a a′. at-pair (states c s) (λ b b′. numbered-step c r l a b && numbered-step c s l a′ b′) (number c (both r s) q)) (number c r (p .0)) (number c s (p .1)) (number-below c s (p .1))
-        ∙ pair-at (states c s) (λ b b′. numbered-step c r l (number c r (p .0)) b && numbered-step c s l (number c s (p .1)) b′) (number c r (q .0)) (number c s (q .1)) (number-below c s (q .1))
-        ∙ ap₂ _&&_ (step-numbered c r l (p .0) (q .0)) (step-numbered c s l (p .1) (q .1))
+    ∙ pair-at (states c s) (λ b b′. numbered-step c r l (number c r (p .0)) b && numbered-step c s l (number c s (p .1)) b′) (number c r (q .0)) (number c s (q .1)) (number-below c s (q .1))
+    ∙ ap₂ _&&_ (step-numbered c r l (p .0) (q .0)) (step-numbered c s l (p .1) (q .1))
 step-numbered c empty l p q = absurd p
 step-numbered c (star r) l p q =
     ap₂ _||_ (step-numbered c r l p q) (ap₂ _&&_ (final-numbered c r p) (init-numbered c r l q))
@@ -226,9 +227,10 @@ step-numbered c (sequence-at r d) l p q = step-numbered (on d) r l p q
 sum-state : (c : Clock) (r s : Sequence) (k : ℕ) → k < states c r + states c s
     → ((k : ℕ) → k < states c r → (p : State c r) × (number c r p ≡ k)) → ((k : ℕ) → k < states c s → (q : State c s) × (number c s q ≡ k))
     → (p : State c r ⊎ State c s) × (number c (concat r s) p ≡ k)
-sum-state c r s k h f g = elim (below-or k (states c r))
-    [ inl i ↦ let z = f k i in (inl (z .0), z .1)
-    | inr i ↦ let z = g (k - states c r) (omega arith) in (inr (z .0), omega (arith, z .1)) ]
+sum-state c r s k h f g = elim (below-or k (states c r)) [
+  | inl i ↦ let z = f k i in (inl (z .0), z .1)
+  | inr i ↦ let z = g (k - states c r) (omega arith) in (inr (z .0), omega (arith, z .1))
+]
 
 pair-state : (c : Clock) (r s : Sequence) (k : ℕ) → k < states c r * states c s
     → ((k : ℕ) → k < states c r → (p : State c r) × (number c r p ≡ k)) → ((k : ℕ) → k < states c s → (q : State c s) × (number c s q ≡ k))
@@ -293,6 +295,7 @@ some-any c r P S e = same-test (some-below (states c r) P) (any c r S) there bac
         let x = some-out (states c r) P t in
         let z = state-at c r (x .0) (x .1) in
         any-in c r S (z .0) (subst T (e (z .0)) (subst (λ (k : ℕ). T (P k)) (sym (z .1)) (x .2)))
+
     back : T (any c r S) → T (some-below (states c r) P)
     back t =
         let x = any-out c r S t in

@@ -16,7 +16,7 @@ below-holds b low h = absurd h
 below-holds b high h = tt
 below-holds b same h = h
 
-pub below-mirror : {x y : Option Letter} → Below x y → Below (Option·map mirror y) (Option·map mirror x)
+below-mirror : {x y : Option Letter} → Below x y → Below (Option·map mirror y) (Option·map mirror x)
 below-mirror low = high
 below-mirror high = low
 below-mirror same = same

@@ -50,6 +50,10 @@ pub first-of : (i : ℕ) (w : Word) → seen (from w i) zero ≡ seen w i
 first-of zero w = refl
 first-of (suc i) w = first-of i (rest w)
 
+pub rest-from : (w : Word) (j : ℕ) → from w (suc j) ≡ rest (from w j)
+rest-from w zero = refl
+rest-from w (suc j) = rest-from (rest w) j
+
 pub from-from : (i j : ℕ) (w : Word) → from (from w i) j ≡ from w (i + j)
 from-from zero j w = rw (zero-add j)
 from-from (suc i) j w = rw (suc-add i j) (from-from i j (rest w))

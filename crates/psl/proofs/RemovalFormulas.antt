@@ -1,6 +1,6 @@
 -- Clock removal on formulas: they are satisfied by the same words.
 use mathlib.Core.Option.{Option, none, some}
-use mathlib.Core.Path.{_≡_, refl, subst, subst⁻¹}
+use mathlib.Core.Path.{subst, subst⁻¹}
 use mathlib.Core.Logic.{inl, inr, _↔_}
 use Prim.Native.Nat.{ℕ, zero, suc, _<_}
 use native.Mathlib.Nat.{not-suc-le-zero, le-of-suc-le-suc}
@@ -17,48 +17,41 @@ use Rattle.psl.proofs.Decide.{decide}
 use Rattle.psl.proofs.FreeTicks.{free-strong, free-next, ticks-present, free-until}
 use Rattle.psl.proofs.Mirrors.{mir-twice, not-both, one-of, seen-mir-from}
 use Rattle.psl.proofs.Monotone.{ticks-holds}
-use Rattle.psl.proofs.Places.{place-first, first-of, seen-mir, place-of-mir}
+use Rattle.psl.proofs.Places.{place-first, first-of, rest-from, seen-mir, place-of-mir}
 use Rattle.psl.proofs.RemovalMatches.{conjoin, conjoin-left, conjoin-right, removal-matches}
 use Rattle.psl.proofs.Same.{iff-both, starts-same, weakly-same, negated-same, abort-same, implies-same}
 use Rattle.psl.proofs.Tests.{settle}
+use Rattle.psl.proofs.Stretches.{letter-holds}
 
 -- ticks by places
-pub or-bottom-holds : (x : Option Letter) (b : Condition) → T (satisfies (or-bottom x) b) → Holds x b
-or-bottom-holds none b h = h
-or-bottom-holds (some l) b h = h
+holds-letter : (x : Option Letter) (b : Condition) → Holds x b → T (satisfies (or-bottom x) b)
+holds-letter none b h = h
+holds-letter (some l) b h = h
 
-pub holds-or-bottom : (x : Option Letter) (b : Condition) → Holds x b → T (satisfies (or-bottom x) b)
-holds-or-bottom none b h = h
-holds-or-bottom (some l) b h = h
-
-pub below-suc : (P : ℕ → Type 0) (n : ℕ) → P zero → ((i : ℕ) → i < n → P (suc i)) → (i : ℕ) → i < suc n → P i
+below-suc : (P : ℕ → Type 0) (n : ℕ) → P zero → ((i : ℕ) → i < n → P (suc i)) → (i : ℕ) → i < suc n → P i
 below-suc P n z s zero h = z
 below-suc P n z s (suc i) h = s i (le-of-suc-le-suc h)
 
 tick-last : (c : Condition) (j : ℕ) (w : Word) → Tick-under (on c) (front w (suc j)) → Holds (seen w j) c
-tick-last c zero w t = or-bottom-holds (seen w zero) c t
+tick-last c zero w t = letter-holds (seen w zero) c t
 tick-last c (suc j) w t = tick-last c j (rest w) (t .1)
 
 tick-early : (c : Condition) (j : ℕ) (w : Word) → Tick-under (on c) (front w (suc j)) → (i : ℕ) → i < j → Holds (seen w i) (negation c)
 tick-early c zero w t i h = absurd (not-suc-le-zero h)
-tick-early c (suc j) w t i h = below-suc (λ k. Holds (seen w k) (negation c)) j (or-bottom-holds (seen w zero) (negation c) (t .0)) (tick-early c j (rest w) (t .1)) i h
+tick-early c (suc j) w t i h = below-suc (λ k. Holds (seen w k) (negation c)) j (letter-holds (seen w zero) (negation c) (t .0)) (tick-early c j (rest w) (t .1)) i h
 
 tick-made : (c : Condition) (j : ℕ) (w : Word) → Holds (seen w j) c → ((i : ℕ) → i < j → Holds (seen w i) (negation c)) → Tick-under (on c) (front w (suc j))
-tick-made c zero w h k = holds-or-bottom (seen w zero) c h
-tick-made c (suc j) w h k = (holds-or-bottom (seen w zero) (negation c) (k zero (omega arith)), tick-made c j (rest w) h (λ i q. k (suc i) (omega arith)))
+tick-made c zero w h k = holds-letter (seen w zero) c h
+tick-made c (suc j) w h k = (holds-letter (seen w zero) (negation c) (k zero (omega arith)), tick-made c j (rest w) h (λ i q. k (suc i) (omega arith)))
 
 -- "(not c)! U (c and b)!" likewise
-pub both-to : (c b : Condition) (x : Option Letter) → Holds x c × Holds x b → Holds x (conjunction c b)
+both-to : (c b : Condition) (x : Option Letter) → Holds x c × Holds x b → Holds x (conjunction c b)
 both-to c b none h = h .0
 both-to c b (some l) h = conjoin l c b (h .0) (h .1)
 
-pub both-from : (c b : Condition) (x : Option Letter) → Holds x (conjunction c b) → Holds x c × Holds x b
+both-from : (c b : Condition) (x : Option Letter) → Holds x (conjunction c b) → Holds x c × Holds x b
 both-from c b none h = absurd h
 both-from c b (some l) h = (conjoin-left l c b h, conjoin-right l c b h)
-
-pub from-rest : (j : ℕ) (w : Word) → from (rest w) j ≡ rest (from w j)
-from-rest zero w = refl
-from-rest (suc j) w = from-rest j (rest w)
 
 -- g where the first tick of c ends: (not c)! U (c! and g)
 abbrev at-tick : Condition → Formula → Formula
@@ -100,13 +93,13 @@ next-to : (c : Condition) (g : Formula) (w : Word) (j k : ℕ) → Tick-under (o
     → Satisfies-under free (at-tick c (next (at-tick c g))) w
 next-to c g w j k t u s =
     to-tick c (next (at-tick c g)) w j t (free-next (at-tick c g) (from w j) .1
-    (subst (λ x. Place x zero × Satisfies-under free (at-tick c g) x) (from-rest j w) (place-first k (from w (suc j)) (ticking-place c k (from w (suc j)) u), to-tick c g (from w (suc j)) k u s)))
+    (subst (λ x. Place x zero × Satisfies-under free (at-tick c g) x) (rest-from w j) (place-first k (from w (suc j)) (ticking-place c k (from w (suc j)) u), to-tick c g (from w (suc j)) k u s)))
 
 next-from : (c : Condition) (g : Formula) (w : Word) → Satisfies-under free (at-tick c (next (at-tick c g))) w
     → (j : ℕ) × (k : ℕ) × Tick-under (on c) (front w (suc j)) × Tick-under (on c) (front (from w (suc j)) (suc k)) × Satisfies-under free g (from (from w (suc j)) k)
 next-from c g w x =
     let (j, t, y) = from-tick c (next (at-tick c g)) w x in
-    let (k, u, s) = from-tick c g (from w (suc j)) (subst⁻¹ (Satisfies-under free (at-tick c g)) (from-rest j w) (free-next (at-tick c g) (from w j) .0 y .1)) in
+    let (k, u, s) = from-tick c g (from w (suc j)) (subst⁻¹ (Satisfies-under free (at-tick c g)) (rest-from w j) (free-next (at-tick c g) (from w j) .0 y .1)) in
     (j, k, t, u, s)
 
 weak-to : (c b : Condition) (w : Word) → Satisfies-under (on c) (weak b) w → Satisfies-under free (unclock c (weak b)) w

@@ -26,7 +26,7 @@ conjoin-right top c b p = tt
 conjoin-right bottom c b p = p
 conjoin-right (ordinary x y) c b p = and-out (satisfies (ordinary x y) c) (satisfies (ordinary x y) b) p .1
 
-pub ends-cons : (b : Condition) (l : Letter) (v : List Letter) → Ends b v → Ends b (l ∷ v)
+ends-cons : (b : Condition) (l : Letter) (v : List Letter) → Ends b v → Ends b (l ∷ v)
 ends-cons b l [] t = absurd t
 ends-cons b l (m ∷ v) t = t
 

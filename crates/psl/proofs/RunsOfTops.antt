@@ -12,7 +12,7 @@ use Rattle.psl.specs.Automaton.{run-of-tops}
 use Rattle.psl.proofs.Languages.{Lang, Concat, Fusion, head-eq, tail-eq, nil-cons, repeats-out}
 use Rattle.psl.proofs.Tests.{and-in, and-out, or-left, or-right, or-out}
 
-pub tops-split : (k n : ℕ) → k ≤ n → (m : ℕ) × (run-of-tops n ≡ run-of-tops k ++ run-of-tops m) × (k + m ≡ n)
+tops-split : (k n : ℕ) → k ≤ n → (m : ℕ) × (run-of-tops n ≡ run-of-tops k ++ run-of-tops m) × (k + m ≡ n)
 tops-split zero n h = (n, refl, omega arith)
 tops-split (suc k) zero h = absurd (omega arith)
 tops-split (suc k) (suc n) h =
@@ -24,7 +24,7 @@ tops-snoc zero = refl
 tops-snoc (suc n) = ap (λ (v : List Letter). top ∷ v) (tops-snoc n)
 
 -- the parts of a word of tops
-pub tops-parts : (n : ℕ) (u w : List Letter) → run-of-tops n ≡ u ++ w → (i : ℕ) × (j : ℕ) × (u ≡ run-of-tops i) × (w ≡ run-of-tops j)
+tops-parts : (n : ℕ) (u w : List Letter) → run-of-tops n ≡ u ++ w → (i : ℕ) × (j : ℕ) × (u ≡ run-of-tops i) × (w ≡ run-of-tops j)
 tops-parts n [] w e = (0, n, refl, sym e)
 tops-parts zero (l ∷ u) w e = nil-cons e
 tops-parts (suc n) (l ∷ u) w e =
@@ -43,7 +43,7 @@ pub late-some : (L : Lang) → Late L → Some L
 late-some L t = (t .0, t .1 (suc (t .0)) (omega arith))
 
 module _ (L K : Lang) where
-  pub late-concat : Late L → Late K → Late (Concat L K)
+  late-concat : Late L → Late K → Late (Concat L K)
   late-concat x y = (x .0 + y .0, go)
     where
       go : (n : ℕ) → x .0 + y .0 ≤ n → Concat L K (run-of-tops n)
@@ -68,7 +68,7 @@ module _ (L K : Lang) where
   pub late-both : Late L → Late K → Late (λ v. L v × K v)
   late-both x y = (max (x .0) (y .0), λ n h. (x .1 n (omega arith), y .1 n (omega arith)))
 
-  pub late-or : Late L ⊎ Late K → Late (λ v. L v ⊎ K v)
+  late-or : Late L ⊎ Late K → Late (λ v. L v ⊎ K v)
   late-or (inl x) = (x .0, λ n h. inl (x .1 n h))
   late-or (inr y) = (y .0, λ n h. inr (y .1 n h))
 
@@ -91,9 +91,10 @@ module _ (L K : Lang) where
     where
       go : (i j : ℕ) (l : Letter) (w : List Letter) → l ∷ w ≡ run-of-tops j → L (run-of-tops i ++ (l ∷ [])) → K (l ∷ w) → Some L × Some K
       go i zero l w e x y = nil-cons (sym e)
-      go i (suc j) l w e x y =
-          ( (i, subst L (sym (tops-snoc i)) (subst (λ (m : Letter). L (run-of-tops i ++ (m ∷ []))) (head-eq e) x))
-          , (j, subst K e y) )
+      go i (suc j) l w e x y = (
+        (i, subst L (sym (tops-snoc i)) (subst (λ (m : Letter). L (run-of-tops i ++ (m ∷ []))) (head-eq e) x)),
+        (j, subst K e y),
+      )
 
 pub late-star : (P : Lang) → Late P → Late (Repeats P)
 late-star P x = (suc (x .0), go)
@@ -104,11 +105,12 @@ late-star P x = (suc (x .0), go)
 
 pub some-star : (P : Lang) → Some (Repeats P) → Some P
 some-star P t =
-    elim (repeats-out P (run-of-tops (suc (t .0))) (t .1))
-    [ inl e ↦ nil-cons (sym e)
-    | inr h ↦
-        let z = tops-parts (suc (t .0)) (h .0 ∷ h .1) (h .2) (h .3) in
-        go (z .0) (h .0) (h .1) (z .2) (h .4) ]
+    elim (repeats-out P (run-of-tops (suc (t .0))) (t .1)) [
+      | inl e ↦ nil-cons (sym e)
+      | inr h ↦
+          let z = tops-parts (suc (t .0)) (h .0 ∷ h .1) (h .2) (h .3) in
+          go (z .0) (h .0) (h .1) (z .2) (h .4)
+    ]
   where
     go : (i : ℕ) (l : Letter) (u : List Letter) → l ∷ u ≡ run-of-tops i → P (l ∷ u) → Some P
     go zero l u e x = nil-cons (sym e)
@@ -122,6 +124,7 @@ module _ (L K : Lang) (n p m q : Bool) where
       more′ : T p × T (m || q) → T m ⊎ T q → Late (Concat L K)
       more′ x (inl y) = late-concat-left L K (b (x .0)) (c y)
       more′ x (inr y) = late-concat L K (b (x .0)) (d y)
+
       go : T (n && q) ⊎ T (p && (m || q)) → Late (Concat L K)
       go (inl x) = let o = and-out n q x in late-concat-right L K (a (o .0)) (d (o .1))
       go (inr x) = let o = and-out p (m || q) x in more′ o (or-out m q (o .1))
@@ -132,6 +135,7 @@ module _ (L K : Lang) (n p m q : Bool) where
       either : K [] ⊎ Some K → T (m || q)
       either (inl x) = or-left m q (c x)
       either (inr x) = or-right m q (d x)
+
       go : (L [] × Some K) ⊎ (Some L × (K [] ⊎ Some K)) → T ((n && q) || (p && (m || q)))
       go (inl x) = or-left (n && q) (p && (m || q)) (and-in n q (a (x .0)) (d (x .1)))
       go (inr x) = or-right (n && q) (p && (m || q)) (and-in p (m || q) (b (x .0)) (either (x .1)))

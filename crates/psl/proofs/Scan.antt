@@ -16,7 +16,7 @@ use Rattle.psl.specs.Evaluation.{first, nowhere, tail-ticks, scan}
 use Rattle.psl.specs.OptionalClock.{Clock, free, on, ticks, waits, Ticks, Tick-under, Satisfies-under}
 use Rattle.psl.proofs.Beyond.{seen-bare, from-bare}
 use Rattle.psl.proofs.Mirrors.{satisfies-negation, tail-twice, mir-twice, from-mir}
-use Rattle.psl.proofs.Places.{holds-present, holds?, place-below, place-first, first-of, place-of-mir, place-in-mir}
+use Rattle.psl.proofs.Places.{holds-present, holds?, place-below, place-first, first-of, rest-from, place-of-mir, place-in-mir}
 use Rattle.psl.proofs.Tests.{and-in, and-out, or-left, or-right, or-out, imp-in, imp-out, or-false, iff-not, settle}
 
 waits-not : (k : Clock) (l : Letter) → waits k l ≡ not (ticks k (mirror l))
@@ -58,9 +58,10 @@ Until k F G w = (i : ℕ) × Ticks k (seen w i) × G (from w i) × ((j : ℕ) �
 
 module _ (k : Clock) (SF SG : Word → Type 0) (F G : List Letter → Bool) where
   until-bare : (t : Tail) → (SG (with-tail [] t) ↔ T (G [])) → Until k SF SG (with-tail [] t) ↔ T (tail-ticks k t && G [])
-  until-bare t g =
-      (λ x. and-in (tail-ticks k t) (G []) (tail-ticks-right k t .0 (subst (Ticks k) (seen-bare t (x .0)) (x .1))) (g .0 (subst SG (from-bare t (x .0)) (x .2))),
-       λ x. let y = and-out (tail-ticks k t) (G []) x in (zero, tail-ticks-right k t .1 (y .0), g .1 (y .1), λ j h. absurd (omega arith)))
+  until-bare t g = (
+    λ x. and-in (tail-ticks k t) (G []) (tail-ticks-right k t .0 (subst (Ticks k) (seen-bare t (x .0)) (x .1))) (g .0 (subst SG (from-bare t (x .0)) (x .2))),
+    λ x. let y = and-out (tail-ticks k t) (G []) x in (zero, tail-ticks-right k t .1 (y .0), g .1 (y .1), λ j h. absurd (omega arith)),
+  )
 
   until-more : (t : Tail) → ((v : List Letter) → SF (with-tail v t) ↔ T (F v)) → ((v : List Letter) → SG (with-tail v t) ↔ T (G v))
       → (l : Letter) (v : List Letter) → Until k SF SG (with-tail v t) ↔ T (scan k F G t v) → Until k SF SG (with-tail (l ∷ v) t) ↔ T (scan k F G t (l ∷ v))
@@ -79,9 +80,9 @@ module _ (k : Clock) (SF SG : Word → Type 0) (F G : List Letter → Bool) wher
       there zero h s a = or-left A B (and-in (ticks k l) (G (l ∷ v)) h (g (l ∷ v) .0 s))
       there (suc i) h s a =
           or-right A B
-            (and-in (not (ticks k (mirror l)) || F (l ∷ v)) (scan k F G t v)
-              (imp-in (ticks k (mirror l)) (F (l ∷ v)) (λ x. f (l ∷ v) .0 (a zero (omega arith) x)))
-              (ih .0 (i, h, s, λ j q. a (suc j) (omega arith))))
+          (and-in (not (ticks k (mirror l)) || F (l ∷ v)) (scan k F G t v)
+          (imp-in (ticks k (mirror l)) (F (l ∷ v)) (λ x. f (l ∷ v) .0 (a zero (omega arith) x)))
+          (ih .0 (i, h, s, λ j q. a (suc j) (omega arith))))
 
       each : (i : ℕ) → (T (ticks k (mirror l)) → SF w) → ((j : ℕ) → j < i → Ticks k (seen (mir (with-tail v t)) j) → SF (from (with-tail v t) j))
           → (j : ℕ) → j < suc i → Ticks k (seen (mir w) j) → SF (from w j)
@@ -101,14 +102,15 @@ module _ (k : Clock) (SF SG : Word → Type 0) (F G : List Letter → Bool) wher
   until-right t f g (l ∷ v) = until-more t f g l v (until-right t f g v)
 
 -- G at the first tick
-abbrev pub First : Clock → (Word → Type 0) → Word → Type 0
+abbrev First : Clock → (Word → Type 0) → Word → Type 0
 First k G w = (j : ℕ) × Place w j × Tick-under k (front w (suc j)) × G (from w j)
 
 module _ (k : Clock) (SG : Word → Type 0) (G : List Letter → Bool) where
   first-bare : (t : Tail) → (SG (with-tail [] t) ↔ T (G [])) → First k SG (with-tail [] t) ↔ T (tail-ticks k t && G [])
-  first-bare t g =
-      (λ x. and-in (tail-ticks k t) (G []) (tick-bare k t (x .0) (x .1) (x .2)) (g .0 (subst SG (from-bare t (x .0)) (x .3))),
-       λ x. let y = and-out (tail-ticks k t) (G []) x in let z = bare-tick k t (y .0) in (zero, z .0, z .1, g .1 (y .1)))
+  first-bare t g = (
+    λ x. and-in (tail-ticks k t) (G []) (tick-bare k t (x .0) (x .1) (x .2)) (g .0 (subst SG (from-bare t (x .0)) (x .3))),
+    λ x. let y = and-out (tail-ticks k t) (G []) x in let z = bare-tick k t (y .0) in (zero, z .0, z .1, g .1 (y .1)),
+  )
 
   first-more : (t : Tail) → ((v : List Letter) → SG (with-tail v t) ↔ T (G v))
       → (l : Letter) (v : List Letter) → First k SG (with-tail v t) ↔ T (scan k nowhere G t v) → First k SG (with-tail (l ∷ v) t) ↔ T (scan k nowhere G t (l ∷ v))
@@ -135,27 +137,24 @@ module _ (k : Clock) (SG : Word → Type 0) (G : List Letter → Bool) where
           let z = ih .1 (y .1) in
           (suc (z .0), z .1, (subst T (sym (waits-not k l)) (or-false (not (ticks k (mirror l))) (y .0)), z .2), z .3)
 
-  pub first-right : (t : Tail) → ((v : List Letter) → SG (with-tail v t) ↔ T (G v))
+  first-right : (t : Tail) → ((v : List Letter) → SG (with-tail v t) ↔ T (G v))
       → (v : List Letter) → First k SG (with-tail v t) ↔ T (scan k nowhere G t v)
   first-right t g [] = first-bare t (g [])
   first-right t g (l ∷ v) = first-more t g l v (first-right t g v)
 
 -- conditions
-pub head-right : (b : Condition) (t : Tail) (v : List Letter) → Holds (seen (with-tail v t) zero) b ↔ T (first b t v)
+head-right : (b : Condition) (t : Tail) (v : List Letter) → Holds (seen (with-tail v t) zero) b ↔ T (first b t v)
 head-right b end [] = (λ h. h, λ h. h)
 head-right b tops [] = (λ h. h, λ h. h)
 head-right b bottoms [] = (λ h. h, λ h. h)
 head-right b t (l ∷ v) = (λ h. h, λ h. h)
 
-pub rest-from : (w : Word) (j : ℕ) → from w (suc j) ≡ rest (from w j)
-rest-from w zero = refl
-rest-from w (suc j) = rest-from (rest w) j
-
 pub strong-right : (k : Clock) (b : Condition) (t : Tail) (v : List Letter) → Satisfies-under k (strong b) (with-tail v t) ↔ T (scan k nowhere (first b t) t v)
 strong-right k b t v =
-    let e = first-right k (λ w. Holds (seen w zero) b) (first b t) t (head-right b t) v in
-    (λ x. e .0 (x .0, holds-present (seen (with-tail v t) (x .0)) b (x .2), x .1, subst (λ (o : Option Letter). Holds o b) (sym (first-of (x .0) (with-tail v t))) (x .2)),
-     λ x. let y = e .1 x in (y .0, y .2, subst (λ (o : Option Letter). Holds o b) (first-of (y .0) (with-tail v t)) (y .3)))
+    let e = first-right k (λ w. Holds (seen w zero) b) (first b t) t (head-right b t) v in (
+      λ x. e .0 (x .0, holds-present (seen (with-tail v t) (x .0)) b (x .2), x .1, subst (λ (o : Option Letter). Holds o b) (sym (first-of (x .0) (with-tail v t))) (x .2)),
+      λ x. let y = e .1 x in (y .0, y .2, subst (λ (o : Option Letter). Holds o b) (first-of (y .0) (with-tail v t)) (y .3)),
+    )
 
 module _ (k : Clock) (b : Condition) (t : Tail) where
   abbrev Fails : Word → Type 0
@@ -187,11 +186,12 @@ before w i j p = place-below i (suc i) w (omega arith) (subst Present (first-of 
 
 pub next-right : (k : Clock) (S : Word → Type 0) (E : List Letter → Bool) (t : Tail) → ((v : List Letter) → S (with-tail v t) ↔ T (E v)) → (v : List Letter)
     → ((i : ℕ) × (j : ℕ) × Tick-under k (front (with-tail v t) (suc i)) × Place (from (with-tail v t) (suc i)) j × Tick-under k (front (from (with-tail v t) (suc i)) (suc j)) × S (from (from (with-tail v t) (suc i)) j))
-      ↔ T (scan k nowhere (λ u. scan k nowhere E t (behead u)) t v)
+    ↔ T (scan k nowhere (λ u. scan k nowhere E t (behead u)) t v)
 next-right k S E t e v =
-    let i = first-right k (λ w. First k S (rest w)) (λ u. scan k nowhere E t (behead u)) t (λ u. first-right k S E t e (behead u)) v in
-    (λ x. i .0 (x .0, before (with-tail v t) (x .0) (x .1) (x .3), x .2, subst (λ (w : Word). First k S w) (rest-from (with-tail v t) (x .0)) (x .1, x .3, x .4, x .5)),
-     λ x.
-       let y = i .1 x in
-       let z : First k S (from (with-tail v t) (suc (y .0))) = subst (λ (w : Word). First k S w) (sym (rest-from (with-tail v t) (y .0))) (y .3) in
-       (y .0, z .0, y .2, z .1, z .2, z .3))
+    let i = first-right k (λ w. First k S (rest w)) (λ u. scan k nowhere E t (behead u)) t (λ u. first-right k S E t e (behead u)) v in (
+      λ x. i .0 (x .0, before (with-tail v t) (x .0) (x .1) (x .3), x .2, subst (λ (w : Word). First k S w) (rest-from (with-tail v t) (x .0)) (x .1, x .3, x .4, x .5)),
+      λ x.
+          let y = i .1 x in
+          let z : First k S (from (with-tail v t) (suc (y .0))) = subst (λ (w : Word). First k S w) (sym (rest-from (with-tail v t) (y .0))) (y .3) in
+          (y .0, z .0, y .2, z .1, z .2, z .3),
+    )

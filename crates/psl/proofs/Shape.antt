@@ -16,7 +16,7 @@ use Rattle.psl.specs.Images.{is-condition, is-wait, ticked, Tame}
 use Rattle.psl.specs.Named.{filled, filled-sequence, filled-formula, Like, Likes}
 use Rattle.psl.specs.OptionalClock.{free, on}
 use Rattle.psl.proofs.Fit.{clocked-judged, tame-judged}
-use Rattle.psl.proofs.Stretch.{clock-stretches, ticked-stretches}
+use Rattle.psl.proofs.Live.{clock-stretches, ticked-stretches}
 use Rattle.psl.proofs.Through.{Spans, eval-like}
 
 condition-filled : (f : ℕ → Condition) (r : Sequence) → is-condition (filled-sequence f r) ≡ is-condition r
@@ -53,7 +53,7 @@ filled-ticked : (f : ℕ → Condition) (r : Sequence) → T (ticked r) → T (t
 filled-ticked f r t = subst T (sym (ticked-filled f r)) t
 
 -- the sequences have the shape of images, and there is no @: no matter what the names stand for
-abbrev pub Shaped : Formula → Type 0
+abbrev Shaped : Formula → Type 0
 Shaped (strong b) = Unit {0}
 Shaped (weak b) = Unit {0}
 Shaped (strong-sequence r) = T (ticked r)
@@ -66,7 +66,7 @@ Shaped (abort x b) = Shaped x
 Shaped (implies r x) = T (ticked r) × Shaped x
 Shaped (formula-at x d) = ⊥
 
-pub shaped-spans : (x : Formula) → Shaped x → Spans free x
+shaped-spans : (x : Formula) → Shaped x → Spans free x
 shaped-spans (strong b) z = tt
 shaped-spans (weak b) z = tt
 shaped-spans (strong-sequence r) z = λ f. ticked-stretches (filled-sequence f r) (filled-ticked f r z)
@@ -79,7 +79,7 @@ shaped-spans (abort x b) z = shaped-spans x z
 shaped-spans (implies r x) z = (λ f. ticked-stretches (filled-sequence f r) (filled-ticked f r (z .0)), shaped-spans x (z .1))
 shaped-spans (formula-at x d) z = absurd z
 
-pub clock-spans : (c : Condition) (x : Formula) → Spans (on c) x
+clock-spans : (c : Condition) (x : Formula) → Spans (on c) x
 clock-spans c (strong b) = tt
 clock-spans c (weak b) = tt
 clock-spans c (strong-sequence r) = λ f. clock-stretches (filled f c) (filled-sequence f r)
@@ -92,7 +92,7 @@ clock-spans c (abort x b) = clock-spans c x
 clock-spans c (implies r x) = (λ f. clock-stretches (filled f c) (filled-sequence f r), clock-spans c x)
 clock-spans c (formula-at x d) = clock-spans d x
 
-pub tame-shaped : (f : ℕ → Condition) (x : Formula) → Tame (filled-formula f x) → Shaped x
+tame-shaped : (f : ℕ → Condition) (x : Formula) → Tame (filled-formula f x) → Shaped x
 tame-shaped f (strong b) z = tt
 tame-shaped f (weak b) z = tt
 tame-shaped f (strong-sequence r) z = subst T (ticked-filled f r) z
@@ -110,14 +110,14 @@ pub tame-named : (g : ℕ → Condition) (x : Formula) → Tame (filled-formula 
     → Unclocked-satisfies (filled-formula g x) (with-tail v t) ↔ T (eval free (filled-formula atom x) t u)
 tame-named g x a t u v h =
     subst (λ (b : Bool). Unclocked-satisfies (filled-formula g x) (with-tail v t) ↔ T b)
-        (sym (eval-like atom g free x (shaped-spans x (tame-shaped g x a)) t u v h)) (tame-judged (filled-formula g x) a t v)
+    (sym (eval-like atom g free x (shaped-spans x (tame-shaped g x a)) t u v h)) (tame-judged (filled-formula g x) a t v)
 
 -- and, under a clock, what the clocked meaning says
 pub clocked-named : (g : ℕ → Condition) (c : Condition) (x : Formula) (t : Tail) (u v : List Letter) → Likes atom g u v
     → Satisfies (filled g c) (filled-formula g x) (with-tail v t) ↔ T (eval (on (filled atom c)) (filled-formula atom x) t u)
 clocked-named g c x t u v h =
     subst (λ (b : Bool). Satisfies (filled g c) (filled-formula g x) (with-tail v t) ↔ T b)
-        (sym (eval-like atom g (on c) x (clock-spans c x) t u v h)) (clocked-judged (filled g c) (filled-formula g x) t v)
+    (sym (eval-like atom g (on c) x (clock-spans c x) t u v h)) (clocked-judged (filled g c) (filled-formula g x) t v)
 
 -- a letter is like the one that its flags make
 pub like-flags : (g : ℕ → Condition) (l : Letter) → Like atom g (ordinary (λ n. satisfies l (g n)) (λ n. satisfies (mirror l) (g n))) l

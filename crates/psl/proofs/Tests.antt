@@ -61,6 +61,7 @@ iff-or {A} {B} a b x y = (there, λ t. back (or-out a b t))
     there : A ⊎ B → T (a || b)
     there (inl t) = or-left a b (x .0 t)
     there (inr t) = or-right a b (y .0 t)
+
     back : T a ⊎ T b → A ⊎ B
     back (inl t) = inl (x .1 t)
     back (inr t) = inr (y .1 t)

@@ -27,76 +27,88 @@ pub record Stretches (k : Clock) (r : Sequence) : Type 0 where
   pub to-live : (p : State k r) → Some (Rest k r p) → T (live k r p)
 
 module _ (k : Clock) (r s : Sequence) (x : Stretches k r) (y : Stretches k s) where
-  pub concat-stretches : Stretches k (concat r s)
+  concat-stretches : Stretches k (concat r s)
   concat-stretches = record {
     from-start = concat-late (Matches-under k r) (Matches-under k s) (null r) (live-start r) (null s) (live-start s) (null-right k r .1) (x .from-start) (null-right k s .1) (y .from-start);
     to-start = concat-some (Matches-under k r) (Matches-under k s) (null r) (live-start r) (null s) (live-start s) (null-right k r .0) (x .to-start) (null-right k s .0) (y .to-start);
-    from-live = late; to-live = some′ }
+    from-live = late;
+    to-live = some′;
+  }
     where
       late : (p : State k r ⊎ State k s) → T (live k (concat r s) p) → Late (Rest k (concat r s) p)
       late (inl p) = concat-late (Rest k r p) (Matches-under k s) (final k r p) (live k r p) (null s) (live-start s) (final-right k r p .1) (x .from-live p) (null-right k s .1) (y .from-start)
       late (inr q) = y .from-live q
+
       some′ : (p : State k r ⊎ State k s) → Some (Rest k (concat r s) p) → T (live k (concat r s) p)
       some′ (inl p) = concat-some (Rest k r p) (Matches-under k s) (final k r p) (live k r p) (null s) (live-start s) (final-right k r p .0) (x .to-live p) (null-right k s .0) (y .to-start)
       some′ (inr q) = y .to-live q
 
-  pub fusion-stretches : Stretches k (fusion r s)
+  fusion-stretches : Stretches k (fusion r s)
   fusion-stretches = record {
     from-start = λ t. let o = and-out (live-start r) (live-start s) t in late-fusion (Matches-under k r) (Matches-under k s) (x .from-start (o .0)) (y .from-start (o .1));
     to-start = λ t. let z = some-fusion (Matches-under k r) (Matches-under k s) t in and-in (live-start r) (live-start s) (x .to-start (z .0)) (y .to-start (z .1));
-    from-live = late; to-live = some′ }
+    from-live = late;
+    to-live = some′;
+  }
     where
       late : (p : State k r ⊎ State k s) → T (live k (fusion r s) p) → Late (Rest k (fusion r s) p)
       late (inl p) = λ t. let o = and-out (live k r p) (live-start s) t in late-fusion (Rest k r p) (Matches-under k s) (x .from-live p (o .0)) (y .from-start (o .1))
       late (inr q) = y .from-live q
+
       some′ : (p : State k r ⊎ State k s) → Some (Rest k (fusion r s) p) → T (live k (fusion r s) p)
       some′ (inl p) = λ t. let z = some-fusion (Rest k r p) (Matches-under k s) t in and-in (live k r p) (live-start s) (x .to-live p (z .0)) (y .to-start (z .1))
       some′ (inr q) = y .to-live q
 
-  pub either-stretches : Stretches k (either r s)
+  either-stretches : Stretches k (either r s)
   either-stretches = record {
     from-start = λ t. either-late (Matches-under k r) (Matches-under k s) (live-start r) (live-start s) (x .from-start) (y .from-start) (or-out (live-start r) (live-start s) t);
     to-start = λ t. either-some (Matches-under k r) (Matches-under k s) (live-start r) (live-start s) (t .0) (x .to-start) (y .to-start) (t .1);
-    from-live = late; to-live = some′ }
+    from-live = late;
+    to-live = some′;
+  }
     where
       late : (p : State k r ⊎ State k s) → T (live k (either r s) p) → Late (Rest k (either r s) p)
       late (inl p) = x .from-live p
       late (inr q) = y .from-live q
+
       some′ : (p : State k r ⊎ State k s) → Some (Rest k (either r s) p) → T (live k (either r s) p)
       some′ (inl p) = x .to-live p
       some′ (inr q) = y .to-live q
 
-  pub both-stretches : Stretches k (both r s)
+  both-stretches : Stretches k (both r s)
   both-stretches = record {
     from-start = λ t. let o = and-out (live-start r) (live-start s) t in late-both (Matches-under k r) (Matches-under k s) (x .from-start (o .0)) (y .from-start (o .1));
     to-start = λ t. and-in (live-start r) (live-start s) (x .to-start (t .0, t .1 .0)) (y .to-start (t .0, t .1 .1));
     from-live = λ p t.
-      let o = and-out (live k r (p .0)) (live k s (p .1)) t in
-      late-both (Rest k r (p .0)) (Rest k s (p .1)) (x .from-live (p .0) (o .0)) (y .from-live (p .1) (o .1));
-    to-live = λ p t. and-in (live k r (p .0)) (live k s (p .1)) (x .to-live (p .0) (t .0, t .1 .0)) (y .to-live (p .1) (t .0, t .1 .1)) }
+        let o = and-out (live k r (p .0)) (live k s (p .1)) t in
+        late-both (Rest k r (p .0)) (Rest k s (p .1)) (x .from-live (p .0) (o .0)) (y .from-live (p .1) (o .1));
+    to-live = λ p t. and-in (live k r (p .0)) (live k s (p .1)) (x .to-live (p .0) (t .0, t .1 .0)) (y .to-live (p .1) (t .0, t .1 .1));
+  }
 
-pub empty-stretches : (k : Clock) → Stretches k empty
+empty-stretches : (k : Clock) → Stretches k empty
 empty-stretches k = record { from-start = λ t. absurd t; to-start = λ t. nil-cons (sym (t .1)); from-live = λ p t. absurd t; to-live = λ p t. absurd p }
 
-pub star-stretches : (k : Clock) (r : Sequence) → Stretches k r → Stretches k (star r)
+star-stretches : (k : Clock) (r : Sequence) → Stretches k r → Stretches k (star r)
 star-stretches k r x = record {
   from-start = λ t. late-star (Matches-under k r) (x .from-start t);
   to-start = λ t. x .to-start (some-star (Matches-under k r) t);
   from-live = λ p t. late p (or-out (final k r p && live-start r) (live k r p) t);
-  to-live = λ p t. some′ p (some-concat (Rest k r p) (Repeats (Matches-under k r)) t) }
+  to-live = λ p t. some′ p (some-concat (Rest k r p) (Repeats (Matches-under k r)) t);
+}
   where
     late : (p : State k r) → T (final k r p && live-start r) ⊎ T (live k r p) → Late (Concat (Rest k r p) (Repeats (Matches-under k r)))
     late p (inl t) =
         let o = and-out (final k r p) (live-start r) t in
         late-concat-right (Rest k r p) (Repeats (Matches-under k r)) (final-right k r p .1 (o .0)) (late-star (Matches-under k r) (x .from-start (o .1)))
     late p (inr t) = late-concat-left (Rest k r p) (Repeats (Matches-under k r)) (x .from-live p t) done
+
     some′ : (p : State k r) → (Rest k r p [] × Some (Repeats (Matches-under k r))) ⊎ (Some (Rest k r p) × (Repeats (Matches-under k r) [] ⊎ Some (Repeats (Matches-under k r))))
         → T ((final k r p && live-start r) || live k r p)
     some′ p (inl t) =
         or-left (final k r p && live-start r) (live k r p) (and-in (final k r p) (live-start r) (final-right k r p .0 (t .0)) (x .to-start (some-star (Matches-under k r) (t .1))))
     some′ p (inr t) = or-right (final k r p && live-start r) (live k r p) (x .to-live p (t .0))
 
-pub clocked-stretches : (k : Clock) (r : Sequence) (d : Condition) → Stretches (on d) r → Stretches k (sequence-at r d)
+clocked-stretches : (k : Clock) (r : Sequence) (d : Condition) → Stretches (on d) r → Stretches k (sequence-at r d)
 clocked-stretches k r d x = record { from-start = x .from-start; to-start = x .to-start; from-live = x .from-live; to-live = x .to-live }
 
 -- a condition under a clock
@@ -115,12 +127,13 @@ late-leaf c b = (1, go)
     go zero h = absurd (omega arith)
     go (suc n) h = (tick-tops c n, ends-tops b n)
 
-pub leaf-stretches : (c b : Condition) → Stretches (on c) (condition b)
+leaf-stretches : (c b : Condition) → Stretches (on c) (condition b)
 leaf-stretches c b = record { from-start = λ t. late-leaf c b; to-start = λ t. tt; from-live = late; to-live = some′ }
   where
     late : (p : Leaf) → T (live (on c) (condition b) p) → Late (Rest (on c) (condition b) p)
     late waiting t = late-leaf c b
     late over t = absurd t
+
     some′ : (p : Leaf) → Some (Rest (on c) (condition b) p) → T (live (on c) (condition b) p)
     some′ waiting t = tt
     some′ over t = nil-cons (sym (t .1))
@@ -142,12 +155,13 @@ late-waiting a b =
     let z = late-image a b in
     (z .0, λ n h. let m = z .1 n h in (m .0, m .1, m .2, ([], m .0, refl, refl, m .3), m .4))
 
-pub tick-stretches : (a b : Condition) → Stretches free (concat (star (condition a)) (condition b))
+tick-stretches : (a b : Condition) → Stretches free (concat (star (condition a)) (condition b))
 tick-stretches a b = record { from-start = λ t. late-image a b; to-start = λ t. tt; from-live = late; to-live = some′ }
   where
     late : (p : Unit {0} ⊎ Unit {0}) → T (live free (concat (star (condition a)) (condition b)) p) → Late (Rest free (concat (star (condition a)) (condition b)) p)
     late (inl p) t = late-waiting a b
     late (inr p) t = absurd t
+
     some′ : (p : Unit {0} ⊎ Unit {0}) → Some (Rest free (concat (star (condition a)) (condition b)) p) → T (live free (concat (star (condition a)) (condition b)) p)
     some′ (inl p) t = tt
     some′ (inr p) t = nil-cons (sym (t .1))
@@ -214,7 +228,8 @@ extends-right k r x (l ∷ v) = (there, back)
     there t =
         let z = after-right k r l v (run-of-tops (suc (t .0))) .0 (t .1) in
         any-in k r (λ q. run k r (init k r l) v q && live k r q) (z .0)
-            (and-in (run k r (init k r l) v (z .0)) (live k r (z .0)) (z .1) (x .to-live (z .0) (t .0, z .2)))
+        (and-in (run k r (init k r l) v (z .0)) (live k r (z .0)) (z .1) (x .to-live (z .0) (t .0, z .2)))
+
     back : T (extends k r (l ∷ v)) → ((m : ℕ) × Matches-under k r (l ∷ (v ++ run-of-tops (suc m))))
     back t =
         let a = any-out k r (λ q. run k r (init k r l) v q && live k r q) t in

@@ -49,8 +49,11 @@ final-right k (either r s) (inl p) = final-right k r p
 final-right k (either r s) (inr q) = final-right k s q
 final-right k (both r s) p = iff-and (final k r (p .0)) (final k s (p .1)) (final-right k r (p .0)) (final-right k s (p .1))
 final-right k empty p = absurd p
-final-right k (star r) p =
-    (λ t. final-right k r p .0 (concat-nil-out (Rest k r p) (Repeats (Matches-under k r)) t .0), λ t. concat-nil-in (Rest k r p) (Repeats (Matches-under k r)) (final-right k r p .1 t) done)
+final-right k (star r) p = (
+  λ t. final-right k r p .0 (concat-nil-out (Rest k r p) (Repeats (Matches-under k r)) t .0),
+  λ t. concat-nil-in (Rest k r p) (Repeats (Matches-under k r))
+      (final-right k r p .1 t) done,
+)
 final-right k (sequence-at r d) p = final-right (on d) r p
 
 -- one letter
@@ -93,11 +96,11 @@ last-right k (sequence-at r d) l p = last-right (on d) r l p
 pub init-right : (k : Clock) (r : Sequence) (l : Letter) → Derives (Matches-under k r) l (init k r l) (Rest k r)
 init-right k (condition b) l = leaf-derives k b l
 init-right k (concat r s) l =
-    concat-derives l (Matches-under k r) (Matches-under k s) (init k r l) (init k s l) (Rest k r) (Rest k s) (init-right k r l) (init-right k s l) (null r) (null-right k r)
+    concat-derives l (Matches-under k r) (Matches-under k s) _ _ _ _ (init-right k r l) (init-right k s l) (null r) (null-right k r)
 init-right k (fusion r s) l =
-    fusion-derives l (Matches-under k r) (Matches-under k s) (init k r l) (init k s l) (Rest k r) (Rest k s) (init-right k r l) (init-right k s l) (single k r l) (single-right k r l)
-init-right k (either r s) l = either-derives l (Matches-under k r) (Matches-under k s) (init k r l) (init k s l) (Rest k r) (Rest k s) (init-right k r l) (init-right k s l)
-init-right k (both r s) l = both-derives l (Matches-under k r) (Matches-under k s) (init k r l) (init k s l) (Rest k r) (Rest k s) (init-right k r l) (init-right k s l)
+    fusion-derives l (Matches-under k r) (Matches-under k s) _ _ _ _ (init-right k r l) (init-right k s l) (single k r l) (single-right k r l)
+init-right k (either r s) l = either-derives l (Matches-under k r) (Matches-under k s) _ _ _ _ (init-right k r l) (init-right k s l)
+init-right k (both r s) l = both-derives l (Matches-under k r) (Matches-under k s) _ _ _ _ (init-right k r l) (init-right k s l)
 init-right k empty l = λ v. (λ e. nil-cons (sym e), λ t. absurd (t .0))
 init-right k (star r) l = star-derives l (init k r l) (Rest k r) (Matches-under k r) (init-right k r l)
 init-right k (sequence-at r d) l = init-right (on d) r l
@@ -105,18 +108,18 @@ init-right k (sequence-at r d) l = init-right (on d) r l
 pub step-right : (k : Clock) (r : Sequence) (l : Letter) (p : State k r) → Derives (Rest k r p) l (step k r l p) (Rest k r)
 step-right k (condition b) l p = leaf-moves k b l p
 step-right k (concat r s) l (inl p) =
-    concat-derives l (Rest k r p) (Matches-under k s) (step k r l p) (init k s l) (Rest k r) (Rest k s) (step-right k r l p) (init-right k s l) (final k r p) (final-right k r p)
-step-right k (concat r s) l (inr q) = right-derives l (Rest k s q) (step k s l q) (λ p. Concat (Rest k r p) (Matches-under k s)) (Rest k s) (step-right k s l q)
+    concat-derives l (Rest k r p) (Matches-under k s) _ _ _ _ (step-right k r l p) (init-right k s l) (final k r p) (final-right k r p)
+step-right k (concat r s) l (inr q) = right-derives l (Rest k s q) _ (λ p. Concat (Rest k r p) (Matches-under k s)) (Rest k s) (step-right k s l q)
 step-right k (fusion r s) l (inl p) =
-    fusion-derives l (Rest k r p) (Matches-under k s) (step k r l p) (init k s l) (Rest k r) (Rest k s) (step-right k r l p) (init-right k s l) (last k r l p) (last-right k r l p)
-step-right k (fusion r s) l (inr q) = right-derives l (Rest k s q) (step k s l q) (λ p. Fusion (Rest k r p) (Matches-under k s)) (Rest k s) (step-right k s l q)
-step-right k (either r s) l (inl p) = left-derives l (Rest k r p) (step k r l p) (Rest k r) (Rest k s) (step-right k r l p)
-step-right k (either r s) l (inr q) = right-derives l (Rest k s q) (step k s l q) (Rest k r) (Rest k s) (step-right k s l q)
+    fusion-derives l (Rest k r p) (Matches-under k s) _ _ _ _ (step-right k r l p) (init-right k s l) (last k r l p) (last-right k r l p)
+step-right k (fusion r s) l (inr q) = right-derives l (Rest k s q) _ (λ p. Fusion (Rest k r p) (Matches-under k s)) (Rest k s) (step-right k s l q)
+step-right k (either r s) l (inl p) = left-derives l (Rest k r p) _ (Rest k r) (Rest k s) (step-right k r l p)
+step-right k (either r s) l (inr q) = right-derives l (Rest k s q) _ (Rest k r) (Rest k s) (step-right k s l q)
 step-right k (both r s) l p =
-    both-derives l (Rest k r (p .0)) (Rest k s (p .1)) (step k r l (p .0)) (step k s l (p .1)) (Rest k r) (Rest k s) (step-right k r l (p .0)) (step-right k s l (p .1))
+    both-derives l (Rest k r (p .0)) (Rest k s (p .1)) _ _ _ _ (step-right k r l (p .0)) (step-right k s l (p .1))
 step-right k empty l p = absurd p
 step-right k (star r) l p =
-    again-derives l (step k r l p) (Rest k r) (Rest k r p) (Repeats (Matches-under k r)) (init k r l) (final k r p) (step-right k r l p)
+    again-derives l _ _ (Rest k r p) (Repeats (Matches-under k r)) _ (final k r p) (step-right k r l p)
     (star-derives l (init k r l) (Rest k r) (Matches-under k r) (init-right k r l)) (final-right k r p)
 step-right k (sequence-at r d) l p = step-right (on d) r l p
 
@@ -142,9 +145,12 @@ sum-out k r s P f g (inr x) = (inr (g x .0), g x .1)
 
 pub any-out : (k : Clock) (r : Sequence) (P : State k r → Bool) → T (any k r P) → (p : State k r) × T (P p)
 any-out k (condition b) P x = leaf-any-out k P x
-any-out k (concat r s) P x = sum-out k r s P (any-out k r (λ p. P (inl p))) (any-out k s (λ q. P (inr q))) (or-out (any k r (λ p. P (inl p))) (any k s (λ q. P (inr q))) x)
-any-out k (fusion r s) P x = sum-out k r s P (any-out k r (λ p. P (inl p))) (any-out k s (λ q. P (inr q))) (or-out (any k r (λ p. P (inl p))) (any k s (λ q. P (inr q))) x)
-any-out k (either r s) P x = sum-out k r s P (any-out k r (λ p. P (inl p))) (any-out k s (λ q. P (inr q))) (or-out (any k r (λ p. P (inl p))) (any k s (λ q. P (inr q))) x)
+any-out k (concat r s) P x =
+    sum-out k r s P (any-out k r (λ p. P (inl p))) (any-out k s (λ q. P (inr q))) (or-out (any k r (λ p. P (inl p))) (any k s (λ q. P (inr q))) x)
+any-out k (fusion r s) P x =
+    sum-out k r s P (any-out k r (λ p. P (inl p))) (any-out k s (λ q. P (inr q))) (or-out (any k r (λ p. P (inl p))) (any k s (λ q. P (inr q))) x)
+any-out k (either r s) P x =
+    sum-out k r s P (any-out k r (λ p. P (inl p))) (any-out k s (λ q. P (inr q))) (or-out (any k r (λ p. P (inl p))) (any k s (λ q. P (inr q))) x)
 any-out k (both r s) P x =
     let y = any-out k r (λ p. any k s (λ q. P (p, q))) x in
     let z = any-out k s (λ q. P (y .0, q)) (y .1) in

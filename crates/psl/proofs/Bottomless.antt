@@ -73,7 +73,8 @@ pub matches-bottomless : (k : Clock) (r : Sequence) (v : List Letter) → Matche
 matches-bottomless k (condition b) v x = condition-bottomless k b v (x .0) (x .1)
 matches-bottomless k (concat r s) v x = rw (x .2) (bottomless-join (x .0) (x .1) (matches-bottomless k r (x .0) (x .3)) (matches-bottomless k s (x .1) (x .4)))
 matches-bottomless k (fusion r s) v x =
-    rw (x .3) (bottomless-join (x .0) (x .1 ∷ x .2) (bottomless-front (x .0) (x .1 ∷ []) (matches-bottomless k r (x .0 ++ (x .1 ∷ [])) (x .4))) (matches-bottomless k s (x .1 ∷ x .2) (x .5)))
+    rw (x .3) (bottomless-join (x .0) (x .1 ∷ x .2) (bottomless-front (x .0) (x .1 ∷ []) (matches-bottomless k r (x .0 ++ (x .1 ∷ [])) (x .4)))
+    (matches-bottomless k s (x .1 ∷ x .2) (x .5)))
 matches-bottomless k (either r s) v (inl x) = matches-bottomless k r v x
 matches-bottomless k (either r s) v (inr x) = matches-bottomless k s v x
 matches-bottomless k (both r s) v x = matches-bottomless k r v (x .0)

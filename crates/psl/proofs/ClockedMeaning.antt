@@ -58,10 +58,20 @@ clock-satisfies c (next f) w = (
       (j, k, tick-same c (front w (suc j)) .1 t, tick-same c (front (from w (suc j)) (suc k)) .1 u, clock-satisfies c f (from (from w (suc j)) k) .1 s)),
 )
 clock-satisfies c (until f g) w = (
-  (λ (k, h, s, b).
-      (k, ticks-same c (seen w k) .0 h, clock-satisfies c g (from w k) .0 s, λ j i q. clock-satisfies c f (from w j) .0 (b j i (ticks-same c (seen (mir w) j) .1 q)))),
-  (λ (k, h, s, b).
-      (k, ticks-same c (seen w k) .1 h, clock-satisfies c g (from w k) .1 s, λ j i q. clock-satisfies c f (from w j) .1 (b j i (ticks-same c (seen (mir w) j) .0 q)))),
+  (λ (k, h, s, b). (
+    k,
+    ticks-same c (seen w k) .0 h,
+    clock-satisfies c g (from w k) .0 s,
+    λ j i q. clock-satisfies c f (from w j) .0
+        (b j i (ticks-same c (seen (mir w) j) .1 q)),
+  )),
+  (λ (k, h, s, b). (
+    k,
+    ticks-same c (seen w k) .1 h,
+    clock-satisfies c g (from w k) .1 s,
+    λ j i q. clock-satisfies c f (from w j) .1
+        (b j i (ticks-same c (seen (mir w) j) .0 q)),
+  )),
 )
 clock-satisfies c (abort f b) w = abort-same (clock-satisfies c f) b w
 clock-satisfies c (implies r f) w = implies-same (clock-matches c r) (clock-satisfies c f) w

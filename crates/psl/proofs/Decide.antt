@@ -107,7 +107,8 @@ weak-sequence? k r w =
     ]
 
 next? : (k : Clock) (S : Word → Type 0) → ((x : Word) → Dec (S x)) → (w : Word)
-    → Dec ((i : ℕ) × (j : ℕ) × Tick-under k (front w (suc i)) × Place (from w (suc i)) j × Tick-under k (front (from w (suc i)) (suc j)) × S (from (from w (suc i)) j))
+    → Dec ((i : ℕ) × (j : ℕ) × Tick-under k (front w (suc i)) × Place (from w (suc i)) j × Tick-under k (front (from w (suc i)) (suc j)) × S
+    (from (from w (suc i)) j))
 next? k S d w =
     let n = length (w .letters) in
     dec-iff ((λ (i, j, t, p, u, s). (i, (t, (j, (p, (u, s)))))), (λ (i, (t, (j, (p, (u, s))))). (i, j, t, p, u, s)))

@@ -43,7 +43,8 @@ cutting b (l ∷ v) t = go (satisfies l b) refl (cutting b v t)
   where
     go : (x : Bool) → satisfies l b ≡ x → Cutting b v t → Cutting b (l ∷ v) t
     go true e k =
-        cut-at zero (subst T (sym e) tt) (λ i h y. absurd (omega arith)) (ap (λ (y : Bool). if y [] (l ∷ cut b v)) e) (ap (λ (y : Bool). if y tops (cut-tail b v t)) e)
+        cut-at zero (subst T (sym e) tt) (λ i h y. absurd (omega arith)) (ap (λ (y : Bool). if y [] (l ∷ cut b v)) e)
+        (ap (λ (y : Bool). if y tops (cut-tail b v t)) e)
     go false e (nowhere-cut n p q) =
         nowhere-cut not-yet (ap (λ (y : Bool). if y [] (l ∷ cut b v)) e ∙ ap (λ (u : List Letter). l ∷ u) p) (ap (λ (y : Bool). if y tops (cut-tail b v t)) e ∙ q)
       where
@@ -57,7 +58,8 @@ cutting b (l ∷ v) t = go (satisfies l b) refl (cutting b v t)
         before zero m x = subst T e x
         before (suc i) m x = n i (le-of-suc-le-suc m) x
 
-abort-right : (k : Clock) (f : Formula) (b : Condition) (t : Tail) (v : List Letter) → Aborts k f → ((u : Tail) (x : List Letter) → Satisfies-under k f (with-tail x u) ↔ T (eval k f u x))
+abort-right : (k : Clock) (f : Formula) (b : Condition) (t : Tail) (v : List Letter) → Aborts k f
+    → ((u : Tail) (x : List Letter) → Satisfies-under k f (with-tail x u) ↔ T (eval k f u x))
     → Satisfies-under k (abort f b) (with-tail v t) ↔ T (eval k f (cut-tail b v t) (cut b v))
 abort-right k f b t v a e = go (cutting b v t)
   where
@@ -67,7 +69,8 @@ abort-right k f b t v a e = go (cutting b v t)
         (iff-trans (e t v) (subst (λ (z : Bool). T (eval k f t v) ↔ T z) (sym (ap₂ (eval k f) q p)) (λ x. x, λ x. x)))
     go (cut-at j h n p q) =
         iff-trans (a b (with-tail v t) j h n)
-        (iff-trans (e tops (front (with-tail v t) j)) (subst (λ (z : Bool). T (eval k f tops (front (with-tail v t) j)) ↔ T z) (sym (ap₂ (eval k f) q p)) (λ x. x, λ x. x)))
+        (iff-trans (e tops (front (with-tail v t) j))
+        (subst (λ (z : Bool). T (eval k f tops (front (with-tail v t) j)) ↔ T z) (sym (ap₂ (eval k f) q p)) (λ x. x, λ x. x)))
 
 -- sequences
 module _ (k : Clock) (r : Sequence) (long : Stretches k r) (S : Word → Type 0) (P : ℕ → Bool) (p : Bool) (v : List Letter) where
@@ -119,12 +122,14 @@ starts-right k r long t v =
     (reach-right k r long Anything (λ j. true) true v t ((λ j h. (λ x. tt, λ x. tt)), (λ x. tt, λ x. tt))) in
     (λ x. e .0 (x .0, x .1, x .2, tt), λ x. let y = e .1 x in (y .0, y .1, y .2))
 
-weakly : (k : Clock) (r : Sequence) → Stretches k r → (t : Tail) (v : List Letter) → Nonempty (with-tail v t) → Satisfies-under k (weak-sequence r) (with-tail v t) ↔ T (reach k r (λ j. true) (is-tops t || is-end t) v)
+weakly : (k : Clock) (r : Sequence) → Stretches k r → (t : Tail) (v : List Letter) → Nonempty (with-tail v t)
+    → Satisfies-under k (weak-sequence r) (with-tail v t) ↔ T (reach k r (λ j. true) (is-tops t || is-end t) v)
 weakly k r long t v full =
     iff-trans (weak-longest k r (with-tail v t) full)
     (subst (λ (b : Bool). Starts-under k r (with-tail v (topped-tail t)) ↔ T (reach k r (λ j. true) b v)) (topped-is t) (starts-right k r long (topped-tail t) v))
 
-weak-sequence-right : (k : Clock) (r : Sequence) → Stretches k r → (t : Tail) (v : List Letter) → Satisfies-under k (weak-sequence r) (with-tail v t) ↔ T (eval k (weak-sequence r) t v)
+weak-sequence-right : (k : Clock) (r : Sequence) → Stretches k r → (t : Tail) (v : List Letter)
+    → Satisfies-under k (weak-sequence r) (with-tail v t) ↔ T (eval k (weak-sequence r) t v)
 weak-sequence-right k r long end [] = (λ x. tt, λ x j p. absurd (no-place-past [] j (omega arith) p))
 weak-sequence-right k r long tops [] = weakly k r long tops [] tt
 weak-sequence-right k r long bottoms [] = weakly k r long bottoms [] tt
@@ -174,7 +179,8 @@ eval-right k (weak-sequence r) fit t v = weak-sequence-right k r fit t v
 eval-right k (negated f) fit t v = iff-not (eval k f (mirror-tail t) (map mirror v)) (eval-right k f fit (mirror-tail t) (map mirror v))
 eval-right k (conjoined f g) fit t v = iff-and (eval k f t v) (eval k g t v) (eval-right k f (fit .0) t v) (eval-right k g (fit .1) t v)
 eval-right k (next f) fit t v = next-right k (Satisfies-under k f) (eval k f t) t (eval-right k f fit t) v
-eval-right k (until f g) fit t v = until-right k (Satisfies-under k f) (Satisfies-under k g) (eval k f t) (eval k g t) t (eval-right k f (fit .0) t) (eval-right k g (fit .1) t) v
+eval-right k (until f g) fit t v =
+    until-right k (Satisfies-under k f) (Satisfies-under k g) (eval k f t) (eval k g t) t (eval-right k f (fit .0) t) (eval-right k g (fit .1) t) v
 eval-right k (abort f b) fit t v = abort-right k f b t v (fit .1) (eval-right k f (fit .0))
 eval-right k (implies r f) fit t v = implies-right k r (fit .0) f t v (eval-right k f (fit .1) t)
 eval-right k (formula-at f d) fit t v = eval-right (on d) f fit t v

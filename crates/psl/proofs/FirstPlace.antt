@@ -12,7 +12,8 @@ use Rattle.psl.proofs.Places.{holds-present, place-first}
 
 -- an abort is decided by its first place
 abbrev pub Aborts : Clock → Formula → Type 0
-Aborts k f = (b : Condition) (w : Word) (j : ℕ) → Holds (seen w j) b → ((i : ℕ) → i < j → Holds (seen w i) b → ⊥) → Satisfies-under k (abort f b) w ↔ Satisfies-under k f (with-tops (front w j))
+Aborts k f = (b : Condition) (w : Word) (j : ℕ) → Holds (seen w j) b → ((i : ℕ) → i < j → Holds (seen w i) b → ⊥) → Satisfies-under k
+    (abort f b) w ↔ Satisfies-under k f (with-tops (front w j))
 
 pub abort-none : (k : Clock) (f : Formula) (b : Condition) (w : Word) → ((j : ℕ) → Holds (seen w j) b → ⊥) → Satisfies-under k (abort f b) w ↔ Satisfies-under k f w
 abort-none k f b w n = (go, λ s. inl s)

@@ -58,8 +58,10 @@ ticked-clock-free (concat r s) t =
       | inl x ↦ let (a, b) = and-out (is-wait r) (is-condition s) x in and-in (clock-free r) (clock-free s) (wait-clock-free r a) (condition-clock-free s b)
       | inr x ↦ let (a, b) = and-out (ticked r) (ticked s) x in and-in (clock-free r) (clock-free s) (ticked-clock-free r a) (ticked-clock-free s b)
     ]
-ticked-clock-free (fusion r s) t = let (a, b) = and-out (ticked r) (ticked s) t in and-in (clock-free r) (clock-free s) (ticked-clock-free r a) (ticked-clock-free s b)
-ticked-clock-free (either r s) t = let (a, b) = and-out (ticked r) (ticked s) t in and-in (clock-free r) (clock-free s) (ticked-clock-free r a) (ticked-clock-free s b)
+ticked-clock-free (fusion r s) t =
+    let (a, b) = and-out (ticked r) (ticked s) t in and-in (clock-free r) (clock-free s) (ticked-clock-free r a) (ticked-clock-free s b)
+ticked-clock-free (either r s) t =
+    let (a, b) = and-out (ticked r) (ticked s) t in and-in (clock-free r) (clock-free s) (ticked-clock-free r a) (ticked-clock-free s b)
 ticked-clock-free (both r s) t = let (a, b) = and-out (ticked r) (ticked s) t in and-in (clock-free r) (clock-free s) (ticked-clock-free r a) (ticked-clock-free s b)
 ticked-clock-free empty t = tt
 ticked-clock-free (star r) t = ticked-clock-free r t

@@ -32,7 +32,8 @@ module _ (f g : ℕ → Condition) where
   like-mirror l m h n = (h n .1, ap (λ (x : Letter). satisfies x (f n)) (mirror-twice l) ∙ h n .0 ∙ sym (ap (λ (x : Letter). satisfies x (g n)) (mirror-twice m)))
 
   pub like-negated : (l m : Letter) (b : Condition) → Like f g l m → satisfies l (negation (filled f b)) ≡ satisfies m (negation (filled g b))
-  like-negated l m b h = satisfies-negation l (filled f b) ∙ ap not (like-filled (mirror l) (mirror m) b (like-mirror l m h)) ∙ sym (satisfies-negation m (filled g b))
+  like-negated l m b h =
+      satisfies-negation l (filled f b) ∙ ap not (like-filled (mirror l) (mirror m) b (like-mirror l m h)) ∙ sym (satisfies-negation m (filled g b))
 
   pub likes-mirror : (u v : List Letter) → Likes f g u v → Likes f g (map mirror u) (map mirror v)
   likes-mirror [] [] h = tt
@@ -76,14 +77,16 @@ module _ (f g : ℕ → Condition) where
   first-like b t (l ∷ u) [] h = absurd h
   first-like b t (l ∷ u) (m ∷ v) h = like-filled l m b (h .0)
 
-  pub cut-like : (b : Condition) (t : Tail) (u v : List Letter) → Likes f g u v → Likes f g (cut (filled f b) u) (cut (filled g b) v) × (cut-tail (filled f b) u t ≡ cut-tail (filled g b) v t)
+  pub cut-like : (b : Condition) (t : Tail) (u v : List Letter) → Likes f g u v
+      → Likes f g (cut (filled f b) u) (cut (filled g b) v) × (cut-tail (filled f b) u t ≡ cut-tail (filled g b) v t)
   cut-like b t [] [] h = (tt, refl)
   cut-like b t [] (m ∷ v) h = absurd h
   cut-like b t (l ∷ u) [] h = absurd h
   cut-like b t (l ∷ u) (m ∷ v) h = one (satisfies l (filled f b)) (satisfies m (filled g b)) (like-filled l m b (h .0)) (cut-like b t u v (h .1))
     where
       one : (x y : Bool) → x ≡ y → Likes f g (cut (filled f b) u) (cut (filled g b) v) × (cut-tail (filled f b) u t ≡ cut-tail (filled g b) v t)
-          → Likes f g (if x [] (l ∷ cut (filled f b) u)) (if y [] (m ∷ cut (filled g b) v)) × (if x tops (cut-tail (filled f b) u t) ≡ if y tops (cut-tail (filled g b) v t))
+          → Likes f g (if x [] (l ∷ cut (filled f b) u)) (if y [] (m ∷ cut (filled g b) v)) ×
+          (if x tops (cut-tail (filled f b) u t) ≡ if y tops (cut-tail (filled g b) v t))
       one true true e k = (tt, refl)
       one true false e k = absurd (subst T e tt)
       one false true e k = absurd (subst T (sym e) tt)

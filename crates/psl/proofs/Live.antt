@@ -10,7 +10,7 @@ use Rattle.psl.specs.Syntax.{Condition, Sequence, condition, concat, fusion, e
 use Rattle.psl.specs.Letter.{Letter, top}
 use Rattle.psl.specs.Word.{Ends}
 use Rattle.psl.specs.Clocked.{Repeats, done, more}
-use Rattle.psl.specs.Automaton.{Leaf, waiting, over, State, null, final, init, run, run-of-tops, live-start, live, extends}
+use Rattle.psl.specs.Automaton.{Leaf, waiting, over, State, final, init, run, run-of-tops, live-start, live, extends}
 use Rattle.psl.specs.Images.{is-condition, is-wait, ticked}
 use Rattle.psl.specs.OptionalClock.{Clock, free, on, Tick-under, Matches-under}
 use Rattle.psl.proofs.Accept.{Rest, null-right, final-right, any-in, any-out, after-right}
@@ -29,23 +29,24 @@ pub record Stretches (k : Clock) (r : Sequence) : Type 0 where
 module _ (k : Clock) (r s : Sequence) (x : Stretches k r) (y : Stretches k s) where
   concat-stretches : Stretches k (concat r s)
   concat-stretches = record {
-    from-start = concat-late (Matches-under k r) (Matches-under k s) (null r) (live-start r) (null s) (live-start s) (null-right k r .1) (x .from-start) (null-right k s .1) (y .from-start);
-    to-start = concat-some (Matches-under k r) (Matches-under k s) (null r) (live-start r) (null s) (live-start s) (null-right k r .0) (x .to-start) (null-right k s .0) (y .to-start);
+    from-start = concat-late _ _ _ _ _ _ (null-right k r .1) (x .from-start) (null-right k s .1) (y .from-start);
+    to-start = concat-some _ _ _ _ _ _ (null-right k r .0) (x .to-start) (null-right k s .0) (y .to-start);
     from-live = late;
     to-live = some′;
   }
     where
       late : (p : State k r ⊎ State k s) → T (live k (concat r s) p) → Late (Rest k (concat r s) p)
-      late (inl p) = concat-late (Rest k r p) (Matches-under k s) (final k r p) (live k r p) (null s) (live-start s) (final-right k r p .1) (x .from-live p) (null-right k s .1) (y .from-start)
+      late (inl p) = concat-late _ _ _ _ _ _ (final-right k r p .1) (x .from-live p) (null-right k s .1) (y .from-start)
       late (inr q) = y .from-live q
 
       some′ : (p : State k r ⊎ State k s) → Some (Rest k (concat r s) p) → T (live k (concat r s) p)
-      some′ (inl p) = concat-some (Rest k r p) (Matches-under k s) (final k r p) (live k r p) (null s) (live-start s) (final-right k r p .0) (x .to-live p) (null-right k s .0) (y .to-start)
+      some′ (inl p) = concat-some _ _ _ _ _ _ (final-right k r p .0) (x .to-live p) (null-right k s .0) (y .to-start)
       some′ (inr q) = y .to-live q
 
   fusion-stretches : Stretches k (fusion r s)
   fusion-stretches = record {
-    from-start = λ t. let o = and-out (live-start r) (live-start s) t in late-fusion (Matches-under k r) (Matches-under k s) (x .from-start (o .0)) (y .from-start (o .1));
+    from-start =
+        λ t. let o = and-out (live-start r) (live-start s) t in late-fusion (Matches-under k r) (Matches-under k s) (x .from-start (o .0)) (y .from-start (o .1));
     to-start = λ t. let z = some-fusion (Matches-under k r) (Matches-under k s) t in and-in (live-start r) (live-start s) (x .to-start (z .0)) (y .to-start (z .1));
     from-live = late;
     to-live = some′;
@@ -61,7 +62,7 @@ module _ (k : Clock) (r s : Sequence) (x : Stretches k r) (y : Stretches k s) wh
 
   either-stretches : Stretches k (either r s)
   either-stretches = record {
-    from-start = λ t. either-late (Matches-under k r) (Matches-under k s) (live-start r) (live-start s) (x .from-start) (y .from-start) (or-out (live-start r) (live-start s) t);
+    from-start = λ t. either-late (Matches-under k r) (Matches-under k s) _ _ (x .from-start) (y .from-start) (or-out (live-start r) (live-start s) t);
     to-start = λ t. either-some (Matches-under k r) (Matches-under k s) (live-start r) (live-start s) (t .0) (x .to-start) (y .to-start) (t .1);
     from-live = late;
     to-live = some′;
@@ -77,7 +78,8 @@ module _ (k : Clock) (r s : Sequence) (x : Stretches k r) (y : Stretches k s) wh
 
   both-stretches : Stretches k (both r s)
   both-stretches = record {
-    from-start = λ t. let o = and-out (live-start r) (live-start s) t in late-both (Matches-under k r) (Matches-under k s) (x .from-start (o .0)) (y .from-start (o .1));
+    from-start =
+        λ t. let o = and-out (live-start r) (live-start s) t in late-both (Matches-under k r) (Matches-under k s) (x .from-start (o .0)) (y .from-start (o .1));
     to-start = λ t. and-in (live-start r) (live-start s) (x .to-start (t .0, t .1 .0)) (y .to-start (t .0, t .1 .1));
     from-live = λ p t.
         let o = and-out (live k r (p .0)) (live k s (p .1)) t in
@@ -102,10 +104,12 @@ star-stretches k r x = record {
         late-concat-right (Rest k r p) (Repeats (Matches-under k r)) (final-right k r p .1 (o .0)) (late-star (Matches-under k r) (x .from-start (o .1)))
     late p (inr t) = late-concat-left (Rest k r p) (Repeats (Matches-under k r)) (x .from-live p t) done
 
-    some′ : (p : State k r) → (Rest k r p [] × Some (Repeats (Matches-under k r))) ⊎ (Some (Rest k r p) × (Repeats (Matches-under k r) [] ⊎ Some (Repeats (Matches-under k r))))
+    some′ : (p : State k r)
+        → (Rest k r p [] × Some (Repeats (Matches-under k r))) ⊎ (Some (Rest k r p) × (Repeats (Matches-under k r) [] ⊎ Some (Repeats (Matches-under k r))))
         → T ((final k r p && live-start r) || live k r p)
     some′ p (inl t) =
-        or-left (final k r p && live-start r) (live k r p) (and-in (final k r p) (live-start r) (final-right k r p .0 (t .0)) (x .to-start (some-star (Matches-under k r) (t .1))))
+        or-left (final k r p && live-start r) (live k r p)
+        (and-in (final k r p) (live-start r) (final-right k r p .0 (t .0)) (x .to-start (some-star (Matches-under k r) (t .1))))
     some′ p (inr t) = or-right (final k r p && live-start r) (live k r p) (x .to-live p (t .0))
 
 clocked-stretches : (k : Clock) (r : Sequence) (d : Condition) → Stretches (on d) r → Stretches k (sequence-at r d)

@@ -28,7 +28,8 @@ topped-⊑ zero w p (suc i) = tops-most i (rest (topped w))
 topped-⊑ (suc j) w p (suc i) = topped-⊑ j (rest w) p i
 
 -- a match ends before the first bottom
-bottomless-same : (v : List Letter) (n : ℕ) → Bottomless (front (with-tops (v ++ (bottom ∷ []))) n) → front (with-tops (v ++ (bottom ∷ []))) n ≡ front (with-tail v bottoms) n
+bottomless-same : (v : List Letter) (n : ℕ) → Bottomless (front (with-tops (v ++ (bottom ∷ []))) n)
+    → front (with-tops (v ++ (bottom ∷ []))) n ≡ front (with-tail v bottoms) n
 bottomless-same v zero h = refl
 bottomless-same [] (suc n) h = absurd h
 bottomless-same (l ∷ v) (suc n) h = ap (λ u. l ∷ u) (bottomless-same v n (bottomless-tail l (front (with-tops (v ++ (bottom ∷ []))) n) h))
@@ -40,7 +41,8 @@ module _ (k : Clock) (r : Sequence) where
   longest : (v : List Letter) (t : Tail) → Nonempty (with-tail v t) → Satisfies-under k (weak-sequence r) (with-tail v t) → Starts-under k r (topped (with-tail v t))
   longest [] end p s = absurd p
   longest (l ∷ v) end p s = subst (λ u. Starts-under k r (with-tops u)) (front-all (l ∷ v) end) (s (length v) (place-last l v end))
-  longest v tops p s = starts-⊑ k r (with-tops (v ++ (top ∷ []))) (with-tail v tops) (⊑-tops v (top ∷ []) tops) (subst (λ u. Starts-under k r (with-tops u)) (front-past v tops) (s (length v) (place-past v tops tt)))
+  longest v tops p s = starts-⊑ k r (with-tops (v ++ (top ∷ []))) (with-tail v tops) (⊑-tops v (top ∷ []) tops)
+      (subst (λ u. Starts-under k r (with-tops u)) (front-past v tops) (s (length v) (place-past v tops tt)))
   longest v bottoms p s = before-bottom v (subst (λ u. Starts-under k r (with-tops u)) (front-past v bottoms) (s (length v) (place-past v bottoms tt)))
 
   pub weak-longest : (w : Word) → Nonempty w → Satisfies-under k (weak-sequence r) w ↔ Satisfies-under k (strong-sequence r) (topped w)

@@ -95,10 +95,18 @@ prefix-below zero w w′ h f p = (zero, f, tops-raised (front w 1) (front w′ 1
 prefix-below (suc j) w w′ h f p =
     elim (place? (seen w 1)) [
       | yes q ↦
-          let k = prefix-below j (rest w) (rest w′) (λ i. h (suc i)) q p in
-          (suc (k .0), k .1, cons-⊑ (or-bottom (seen w zero)) (or-bottom (seen w′ zero)) (front (rest w) (suc (k .0))) (front (rest w′) (suc j)) (below-or-bottom (h zero)) (k .2))
-      | no n ↦
-          (zero, f, cons-⊑ (or-bottom (seen w zero)) (or-bottom (seen w′ zero)) [] (front (rest w′) (suc j)) (below-or-bottom (h zero)) (tops-above j (rest w) (rest w′) (λ i. h (suc i)) n p))
+          let k = prefix-below j (rest w) (rest w′) (λ i. h (suc i)) q p in (
+            suc (k .0),
+            k .1,
+            cons-⊑ (or-bottom (seen w zero)) (or-bottom (seen w′ zero)) (front (rest w) (suc (k .0))) (front (rest w′) (suc j))
+                (below-or-bottom (h zero)) (k .2),
+          )
+      | no n ↦ (
+        zero,
+        f,
+        cons-⊑ (or-bottom (seen w zero)) (or-bottom (seen w′ zero)) [] (front (rest w′) (suc j)) (below-or-bottom (h zero))
+            (tops-above j (rest w) (rest w′) (λ i. h (suc i)) n p),
+      )
     ]
 
 tops-⊑ : (n : ℕ) (w w′ : Word) → w ⊑ w′ → with-tops (front w n) ⊑ with-tops (front w′ n)
@@ -126,7 +134,8 @@ satisfies-⊑ c (until f g) w w′ h p p′ (k, t, s, b) =
     let t′ = ticks-⊑ c (h k) t in (
       k,
       t′,
-      satisfies-⊑ c g (from w k) (from w′ k) (⊑-from k w w′ h) (nonempty-holds k w c (ticks-holds c (seen w k) t)) (nonempty-holds k w′ c (ticks-holds c (seen w′ k) t′)) s,
+      satisfies-⊑ c g (from w k) (from w′ k) (⊑-from k w w′ h) (nonempty-holds k w c (ticks-holds c (seen w k) t))
+          (nonempty-holds k w′ c (ticks-holds c (seen w′ k) t′)) s,
       λ j i q′.
           let q = ticks-⊑ c (⊑-mir w w′ h j) q′ in
           satisfies-⊑ c f (from w j) (from w′ j) (⊑-from j w w′ h)
@@ -136,7 +145,12 @@ satisfies-⊑ c (until f g) w w′ h p p′ (k, t, s, b) =
     )
 satisfies-⊑ c (abort f b) w w′ h p p′ (inl s) = inl (satisfies-⊑ c f w w′ h p p′ s)
 satisfies-⊑ c (abort f b) w w′ h p p′ (inr (j, t, s)) =
-    inr (j, below-holds b (h j) t, satisfies-⊑ c f (with-tops (front w j)) (with-tops (front w′ j)) (tops-⊑ j w w′ h) (nonempty-tops (front w j)) (nonempty-tops (front w′ j)) s)
+    inr (
+      j,
+      below-holds b (h j) t,
+      satisfies-⊑ c f (with-tops (front w j)) (with-tops (front w′ j)) (tops-⊑ j w w′ h) (nonempty-tops (front w j))
+          (nonempty-tops (front w′ j)) s,
+    )
 satisfies-⊑ c (implies r f) w w′ h p p′ s = λ j q′ m′.
     let m = matches-raised (on c) r (front (mir w′) (suc j)) (front (mir w) (suc j)) (front-raised (suc j) (mir w′) (mir w) (⊑-mir w w′ h)) m′ in
     let q = place-of-mir w j (matches-place (on c) r j (mir w) m) in

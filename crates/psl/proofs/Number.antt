@@ -86,7 +86,8 @@ leaf-init-numbered free b l p = refl
 leaf-init-numbered (on c) b l waiting = refl
 leaf-init-numbered (on c) b l over = refl
 
-leaf-move-numbered : (c : Clock) (b : Condition) (l : Letter) (p q : Leaf-state c) → numbered-leaf-step c b l (leaf-number c p) (leaf-number c q) ≡ leaf-step c b l p q
+leaf-move-numbered : (c : Clock) (b : Condition) (l : Letter) (p q : Leaf-state c) → numbered-leaf-step c b l (leaf-number c p)
+    (leaf-number c q) ≡ leaf-step c b l p q
 leaf-move-numbered free b l p q = refl
 leaf-move-numbered (on c) b l waiting q = leaf-init-numbered (on c) b l q
 leaf-move-numbered (on c) b l over q = refl
@@ -114,7 +115,8 @@ number-below c (sequence-at r d) p = number-below (on d) r p
 pub final-numbered : (c : Clock) (r : Sequence) (p : State c r) → numbered-final c r (number c r p) ≡ final c r p
 final-numbered c (condition b) p = leaf-final-numbered c p
 final-numbered c (concat r s) (inl p) =
-    sum-left (states c r) (λ p. numbered-final c r p && null s) (numbered-final c s) (number c r p) (number-below c r p) ∙ ap (λ (x : Bool). x && null s) (final-numbered c r p)
+    sum-left (states c r) (λ p. numbered-final c r p && null s) (numbered-final c s) (number c r p) (number-below c r p) ∙ ap (λ (x : Bool). x && null s)
+    (final-numbered c r p)
 final-numbered c (concat r s) (inr q) = sum-right (states c r) (λ p. numbered-final c r p && null s) (numbered-final c s) (number c s q) ∙ final-numbered c s q
 final-numbered c (fusion r s) (inl p) = sum-left (states c r) (λ p. false) (numbered-final c s) (number c r p) (number-below c r p)
 final-numbered c (fusion r s) (inr q) = sum-right (states c r) (λ p. false) (numbered-final c s) (number c s q) ∙ final-numbered c s q
@@ -133,10 +135,13 @@ last-numbered c (concat r s) l (inl p) =
     sum-left (states c r) (λ p. (numbered-final c r p && single c s l) || (numbered-last c r l p && null s)) (numbered-last c s l) (number c r p) (number-below c r p)
     ∙ ap₂ (λ (x y : Bool). (x && single c s l) || (y && null s)) (final-numbered c r p) (last-numbered c r l p)
 last-numbered c (concat r s) l (inr q) =
-    sum-right (states c r) (λ p. (numbered-final c r p && single c s l) || (numbered-last c r l p && null s)) (numbered-last c s l) (number c s q) ∙ last-numbered c s l q
+    sum-right (states c r) (λ p. (numbered-final c r p && single c s l) || (numbered-last c r l p && null s)) (numbered-last c s l) (number c s q)
+    ∙ last-numbered c s l q
 last-numbered c (fusion r s) l (inl p) =
-    sum-left (states c r) (λ p. numbered-last c r l p && single c s l) (numbered-last c s l) (number c r p) (number-below c r p) ∙ ap (λ (x : Bool). x && single c s l) (last-numbered c r l p)
-last-numbered c (fusion r s) l (inr q) = sum-right (states c r) (λ p. numbered-last c r l p && single c s l) (numbered-last c s l) (number c s q) ∙ last-numbered c s l q
+    sum-left (states c r) (λ p. numbered-last c r l p && single c s l) (numbered-last c s l) (number c r p) (number-below c r p) ∙ ap
+    (λ (x : Bool). x && single c s l) (last-numbered c r l p)
+last-numbered c (fusion r s) l (inr q) =
+    sum-right (states c r) (λ p. numbered-last c r l p && single c s l) (numbered-last c s l) (number c s q) ∙ last-numbered c s l q
 last-numbered c (either r s) l (inl p) = sum-left (states c r) (numbered-last c r l) (numbered-last c s l) (number c r p) (number-below c r p) ∙ last-numbered c r l p
 last-numbered c (either r s) l (inr q) = sum-right (states c r) (numbered-last c r l) (numbered-last c s l) (number c s q) ∙ last-numbered c s l q
 last-numbered c (both r s) l p =
@@ -149,12 +154,15 @@ last-numbered c (sequence-at r d) l p = last-numbered (on d) r l p
 pub live-numbered : (c : Clock) (r : Sequence) (p : State c r) → numbered-live c r (number c r p) ≡ live c r p
 live-numbered c (condition b) p = leaf-live-numbered c p
 live-numbered c (concat r s) (inl p) =
-    sum-left (states c r) (λ p. (numbered-final c r p && live-start s) || (numbered-live c r p && (null s || live-start s))) (numbered-live c s) (number c r p) (number-below c r p)
+    sum-left (states c r) (λ p. (numbered-final c r p && live-start s) || (numbered-live c r p && (null s || live-start s))) (numbered-live c s) (number c r p)
+    (number-below c r p)
     ∙ ap₂ (λ (x y : Bool). (x && live-start s) || (y && (null s || live-start s))) (final-numbered c r p) (live-numbered c r p)
 live-numbered c (concat r s) (inr q) =
-    sum-right (states c r) (λ p. (numbered-final c r p && live-start s) || (numbered-live c r p && (null s || live-start s))) (numbered-live c s) (number c s q) ∙ live-numbered c s q
+    sum-right (states c r) (λ p. (numbered-final c r p && live-start s) || (numbered-live c r p && (null s || live-start s))) (numbered-live c s)
+    (number c s q) ∙ live-numbered c s q
 live-numbered c (fusion r s) (inl p) =
-    sum-left (states c r) (λ p. numbered-live c r p && live-start s) (numbered-live c s) (number c r p) (number-below c r p) ∙ ap (λ (x : Bool). x && live-start s) (live-numbered c r p)
+    sum-left (states c r) (λ p. numbered-live c r p && live-start s) (numbered-live c s) (number c r p) (number-below c r p) ∙ ap
+    (λ (x : Bool). x && live-start s) (live-numbered c r p)
 live-numbered c (fusion r s) (inr q) = sum-right (states c r) (λ p. numbered-live c r p && live-start s) (numbered-live c s) (number c s q) ∙ live-numbered c s q
 live-numbered c (either r s) (inl p) = sum-left (states c r) (numbered-live c r) (numbered-live c s) (number c r p) (number-below c r p) ∙ live-numbered c r p
 live-numbered c (either r s) (inr q) = sum-right (states c r) (numbered-live c r) (numbered-live c s) (number c s q) ∙ live-numbered c s q
@@ -184,9 +192,12 @@ sum-on-right c r s h h′ b (inr q) = sum-right (states c r) (λ q. false) h (nu
 
 pub init-numbered : (c : Clock) (r : Sequence) (l : Letter) (q : State c r) → numbered-init c r l (number c r q) ≡ init c r l q
 init-numbered c (condition b) l q = leaf-init-numbered c b l q
-init-numbered c (concat r s) l q = sum-into c r s (null r) (null r) (numbered-init c r l) (init c r l) (numbered-init c s l) (init c s l) refl (init-numbered c r l) (init-numbered c s l) q
-init-numbered c (fusion r s) l q = sum-into c r s (single c r l) (single c r l) (numbered-init c r l) (init c r l) (numbered-init c s l) (init c s l) refl (init-numbered c r l) (init-numbered c s l) q
-init-numbered c (either r s) l q = sum-into c r s true true (numbered-init c r l) (init c r l) (numbered-init c s l) (init c s l) refl (init-numbered c r l) (init-numbered c s l) q
+init-numbered c (concat r s) l q =
+    sum-into c r s (null r) (null r) (numbered-init c r l) (init c r l) (numbered-init c s l) (init c s l) refl (init-numbered c r l) (init-numbered c s l) q
+init-numbered c (fusion r s) l q = sum-into c r s (single c r l) (single c r l) (numbered-init c r l) (init c r l) (numbered-init c s l) (init c s l) refl
+    (init-numbered c r l) (init-numbered c s l) q
+init-numbered c (either r s) l q =
+    sum-into c r s true true (numbered-init c r l) (init c r l) (numbered-init c s l) (init c s l) refl (init-numbered c r l) (init-numbered c s l) q
 init-numbered c (both r s) l p =
     pair-at (states c s) (λ p q. numbered-init c r l p && numbered-init c s l q) (number c r (p .0)) (number c s (p .1)) (number-below c s (p .1))
     ∙ ap₂ _&&_ (init-numbered c r l (p .0)) (init-numbered c s l (p .1))
@@ -197,26 +208,36 @@ init-numbered c (sequence-at r d) l q = init-numbered (on d) r l q
 pub step-numbered : (c : Clock) (r : Sequence) (l : Letter) (p q : State c r) → numbered-step c r l (number c r p) (number c r q) ≡ step c r l p q
 step-numbered c (condition b) l p q = leaf-move-numbered c b l p q
 step-numbered c (concat r s) l (inl p) q =
-    sum-left (states c r) (λ p. at-sum (states c r) (numbered-step c r l p) (λ q. numbered-final c r p && numbered-init c s l q) (number c (concat r s) q)) (λ p. at-sum (states c r) (λ q. false) (numbered-step c s l p) (number c (concat r s) q)) (number c r p) (number-below c r p)
-    ∙ sum-into c r s (numbered-final c r (number c r p)) (final c r p) (numbered-step c r l (number c r p)) (step c r l p) (numbered-init c s l) (init c s l) (final-numbered c r p) (step-numbered c r l p) (init-numbered c s l) q
+    sum-left (states c r) (λ p. at-sum (states c r) (numbered-step c r l p) (λ q. numbered-final c r p && numbered-init c s l q) (number c (concat r s) q))
+    (λ p. at-sum (states c r) (λ q. false) (numbered-step c s l p) (number c (concat r s) q)) (number c r p) (number-below c r p)
+    ∙ sum-into c r s (numbered-final c r (number c r p)) (final c r p) (numbered-step c r l (number c r p)) (step c r l p) (numbered-init c s l) (init c s l)
+    (final-numbered c r p) (step-numbered c r l p) (init-numbered c s l) q
 step-numbered c (concat r s) l (inr p) q =
-    sum-right (states c r) (λ p. at-sum (states c r) (numbered-step c r l p) (λ q. numbered-final c r p && numbered-init c s l q) (number c (concat r s) q)) (λ p. at-sum (states c r) (λ q. false) (numbered-step c s l p) (number c (concat r s) q)) (number c s p)
+    sum-right (states c r) (λ p. at-sum (states c r) (numbered-step c r l p) (λ q. numbered-final c r p && numbered-init c s l q) (number c (concat r s) q))
+    (λ p. at-sum (states c r) (λ q. false) (numbered-step c s l p) (number c (concat r s) q)) (number c s p)
     ∙ sum-on-right c r s (numbered-step c s l (number c s p)) (step c s l p) (step-numbered c s l p) q
 step-numbered c (fusion r s) l (inl p) q =
-    sum-left (states c r) (λ p. at-sum (states c r) (numbered-step c r l p) (λ q. numbered-last c r l p && numbered-init c s l q) (number c (concat r s) q)) (λ p. at-sum (states c r) (λ q. false) (numbered-step c s l p) (number c (concat r s) q)) (number c r p) (number-below c r p)
-    ∙ sum-into c r s (numbered-last c r l (number c r p)) (last c r l p) (numbered-step c r l (number c r p)) (step c r l p) (numbered-init c s l) (init c s l) (last-numbered c r l p) (step-numbered c r l p) (init-numbered c s l) q
+    sum-left (states c r) (λ p. at-sum (states c r) (numbered-step c r l p) (λ q. numbered-last c r l p && numbered-init c s l q) (number c (concat r s) q))
+    (λ p. at-sum (states c r) (λ q. false) (numbered-step c s l p) (number c (concat r s) q)) (number c r p) (number-below c r p)
+    ∙ sum-into c r s (numbered-last c r l (number c r p)) (last c r l p) (numbered-step c r l (number c r p)) (step c r l p) (numbered-init c s l) (init c s l)
+    (last-numbered c r l p) (step-numbered c r l p) (init-numbered c s l) q
 step-numbered c (fusion r s) l (inr p) q =
-    sum-right (states c r) (λ p. at-sum (states c r) (numbered-step c r l p) (λ q. numbered-last c r l p && numbered-init c s l q) (number c (concat r s) q)) (λ p. at-sum (states c r) (λ q. false) (numbered-step c s l p) (number c (concat r s) q)) (number c s p)
+    sum-right (states c r) (λ p. at-sum (states c r) (numbered-step c r l p) (λ q. numbered-last c r l p && numbered-init c s l q) (number c (concat r s) q))
+    (λ p. at-sum (states c r) (λ q. false) (numbered-step c s l p) (number c (concat r s) q)) (number c s p)
     ∙ sum-on-right c r s (numbered-step c s l (number c s p)) (step c s l p) (step-numbered c s l p) q
 step-numbered c (either r s) l (inl p) q =
-    sum-left (states c r) (λ p. at-sum (states c r) (numbered-step c r l p) (λ q. false) (number c (concat r s) q)) (λ p. at-sum (states c r) (λ q. false) (numbered-step c s l p) (number c (concat r s) q)) (number c r p) (number-below c r p)
+    sum-left (states c r) (λ p. at-sum (states c r) (numbered-step c r l p) (λ q. false) (number c (concat r s) q))
+    (λ p. at-sum (states c r) (λ q. false) (numbered-step c s l p) (number c (concat r s) q)) (number c r p) (number-below c r p)
     ∙ sum-on-left c r s (numbered-step c r l (number c r p)) (step c r l p) (step-numbered c r l p) q
 step-numbered c (either r s) l (inr p) q =
-    sum-right (states c r) (λ p. at-sum (states c r) (numbered-step c r l p) (λ q. false) (number c (concat r s) q)) (λ p. at-sum (states c r) (λ q. false) (numbered-step c s l p) (number c (concat r s) q)) (number c s p)
+    sum-right (states c r) (λ p. at-sum (states c r) (numbered-step c r l p) (λ q. false) (number c (concat r s) q))
+    (λ p. at-sum (states c r) (λ q. false) (numbered-step c s l p) (number c (concat r s) q)) (number c s p)
     ∙ sum-on-right c r s (numbered-step c s l (number c s p)) (step c s l p) (step-numbered c s l p) q
 step-numbered c (both r s) l p q =
-    pair-at (states c s) (λ a a′. at-pair (states c s) (λ b b′. numbered-step c r l a b && numbered-step c s l a′ b′) (number c (both r s) q)) (number c r (p .0)) (number c s (p .1)) (number-below c s (p .1))
-    ∙ pair-at (states c s) (λ b b′. numbered-step c r l (number c r (p .0)) b && numbered-step c s l (number c s (p .1)) b′) (number c r (q .0)) (number c s (q .1)) (number-below c s (q .1))
+    pair-at (states c s) (λ a a′. at-pair (states c s) (λ b b′. numbered-step c r l a b && numbered-step c s l a′ b′) (number c (both r s) q))
+    (number c r (p .0)) (number c s (p .1)) (number-below c s (p .1))
+    ∙ pair-at (states c s) (λ b b′. numbered-step c r l (number c r (p .0)) b && numbered-step c s l (number c s (p .1)) b′) (number c r (q .0))
+    (number c s (q .1)) (number-below c s (q .1))
     ∙ ap₂ _&&_ (step-numbered c r l (p .0) (q .0)) (step-numbered c s l (p .1) (q .1))
 step-numbered c empty l p q = absurd p
 step-numbered c (star r) l p q =

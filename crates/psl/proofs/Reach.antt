@@ -39,10 +39,16 @@ module _ (k : Clock) (r : Sequence) (S : Word → Type 0) (v : List Letter) wher
   past-reaches bottoms (x, y) = absurd x
   past-reaches tops (x, ((m, y), s)) =
       let j = length v + m in
-      let e : suc j ≡ length v + suc m = omega arith in
-      (j, place-tops v j, subst (Matches-under k r) (sym (ap (front (with-tail v tops)) e ∙ front-tops v (suc m))) y, subst S (sym (from-past v tops j (omega arith))) s)
+      let e : suc j ≡ length v + suc m = omega arith in (
+        j,
+        place-tops v j,
+        subst (Matches-under k r) (sym (ap (front (with-tail v tops)) e ∙ front-tops v (suc m))) y,
+        subst S
+            (sym (from-past v tops j (omega arith))) s,
+      )
 
-  reaches-past : (t : Tail) (j : ℕ) → length v ≤ j → Place (with-tail v t) j → Matches-under k r (front (with-tail v t) (suc j)) → S (from (with-tail v t) j) → Past t
+  reaches-past : (t : Tail) (j : ℕ) → length v ≤ j → Place (with-tail v t) j → Matches-under k r (front (with-tail v t) (suc j))
+      → S (from (with-tail v t) j) → Past t
   reaches-past end j h p m s = absurd (no-place-past v j h p)
   reaches-past bottoms j h p m s = absurd (bottomless-past v j h (matches-bottomless k r (front (with-tail v bottoms) (suc j)) m))
   reaches-past tops j h p m s =

@@ -57,7 +57,8 @@ both-from c b (some l) h = (conjoin-left l c b h, conjoin-right l c b h)
 abbrev at-tick : Condition → Formula → Formula
 at-tick c g = after-waiting c (conjoined (strong c) g)
 
-to-tick : (c : Condition) (g : Formula) (w : Word) (j : ℕ) → Tick-under (on c) (front w (suc j)) → Satisfies-under free g (from w j) → Satisfies-under free (at-tick c g) w
+to-tick : (c : Condition) (g : Formula) (w : Word) (j : ℕ) → Tick-under (on c) (front w (suc j)) → Satisfies-under free g (from w j)
+    → Satisfies-under free (at-tick c g) w
 to-tick c g w j t s =
     free-until (strong (negation c)) (conjoined (strong c) g) w .1 (
       j,
@@ -66,34 +67,42 @@ to-tick c g w j t s =
       λ i h. free-strong (negation c) (from w i) .1 (rw (first-of i w) (tick-early c j w t i h)),
     )
 
-from-tick : (c : Condition) (g : Formula) (w : Word) → Satisfies-under free (at-tick c g) w → (j : ℕ) × Tick-under (on c) (front w (suc j)) × Satisfies-under free g (from w j)
+from-tick : (c : Condition) (g : Formula) (w : Word) → Satisfies-under free (at-tick c g) w
+    → (j : ℕ) × Tick-under (on c) (front w (suc j)) × Satisfies-under free g (from w j)
 from-tick c g w x =
     let (j, p, (h, s), k) = free-until (strong (negation c)) (conjoined (strong c) g) w .0 x in
     let h′ : Holds (seen (from w j) zero) c = free-strong c (from w j) .0 h in
     (j, tick-made c j w (rw (first-of j w) at h′) (λ i q. rw (first-of i w) at (free-strong (negation c) (from w i) .0 (k i q))), s)
 
-to-both : (c b : Condition) (w : Word) → Satisfies-under free (at-tick c (strong b)) w → Satisfies-under free (until (strong (negation c)) (strong (conjunction c b))) w
-to-both c b w (j, t, (h, k), n) = (j, t, free-strong (conjunction c b) (from w j) .1 (both-to c b (seen (from w j) zero) (free-strong c (from w j) .0 h, free-strong b (from w j) .0 k)), n)
+to-both : (c b : Condition) (w : Word) → Satisfies-under free (at-tick c (strong b)) w
+    → Satisfies-under free (until (strong (negation c)) (strong (conjunction c b))) w
+to-both c b w (j, t, (h, k), n) =
+    (j, t, free-strong (conjunction c b) (from w j) .1 (both-to c b (seen (from w j) zero) (free-strong c (from w j) .0 h, free-strong b (from w j) .0 k)), n)
 
-from-both : (c b : Condition) (w : Word) → Satisfies-under free (until (strong (negation c)) (strong (conjunction c b))) w → Satisfies-under free (at-tick c (strong b)) w
+from-both : (c b : Condition) (w : Word) → Satisfies-under free (until (strong (negation c)) (strong (conjunction c b))) w
+    → Satisfies-under free (at-tick c (strong b)) w
 from-both c b w (j, t, h, n) =
     let p = both-from c b (seen (from w j) zero) (free-strong (conjunction c b) (from w j) .0 h) in
     (j, t, (free-strong c (from w j) .1 (p .0), free-strong b (from w j) .1 (p .1)), n)
 
 -- a condition at the first tick
-strong-to : (c b : Condition) (w : Word) (j : ℕ) → Tick-under (on c) (front w (suc j)) → Holds (seen w j) b → Satisfies-under free (until (strong (negation c)) (strong (conjunction c b))) w
+strong-to : (c b : Condition) (w : Word) (j : ℕ) → Tick-under (on c) (front w (suc j)) → Holds (seen w j) b
+    → Satisfies-under free (until (strong (negation c)) (strong (conjunction c b))) w
 strong-to c b w j t h = to-both c b w (to-tick c (strong b) w j t (free-strong b (from w j) .1 (rw (first-of j w) h)))
 
-strong-from : (c b : Condition) (w : Word) → Satisfies-under free (until (strong (negation c)) (strong (conjunction c b))) w → (j : ℕ) × Tick-under (on c) (front w (suc j)) × Holds (seen w j) b
+strong-from : (c b : Condition) (w : Word) → Satisfies-under free (until (strong (negation c)) (strong (conjunction c b))) w
+    → (j : ℕ) × Tick-under (on c) (front w (suc j)) × Holds (seen w j) b
 strong-from c b w x =
     let (j, t, h) = from-tick c (strong b) w (from-both c b w x) in
     (j, t, rw (first-of j w) at (free-strong b (from w j) .0 h))
 
-next-to : (c : Condition) (g : Formula) (w : Word) (j k : ℕ) → Tick-under (on c) (front w (suc j)) → Tick-under (on c) (front (from w (suc j)) (suc k)) → Satisfies-under free g (from (from w (suc j)) k)
+next-to : (c : Condition) (g : Formula) (w : Word) (j k : ℕ) → Tick-under (on c) (front w (suc j)) → Tick-under (on c) (front (from w (suc j)) (suc k))
+    → Satisfies-under free g (from (from w (suc j)) k)
     → Satisfies-under free (at-tick c (next (at-tick c g))) w
 next-to c g w j k t u s =
     to-tick c (next (at-tick c g)) w j t (free-next (at-tick c g) (from w j) .1
-    (subst (λ x. Place x zero × Satisfies-under free (at-tick c g) x) (rest-from w j) (place-first k (from w (suc j)) (ticking-place c k (from w (suc j)) u), to-tick c g (from w (suc j)) k u s)))
+    (subst (λ x. Place x zero × Satisfies-under free (at-tick c g) x) (rest-from w j)
+    (place-first k (from w (suc j)) (ticking-place c k (from w (suc j)) u), to-tick c g (from w (suc j)) k u s)))
 
 next-from : (c : Condition) (g : Formula) (w : Word) → Satisfies-under free (at-tick c (next (at-tick c g))) w
     → (j : ℕ) × (k : ℕ) × Tick-under (on c) (front w (suc j)) × Tick-under (on c) (front (from w (suc j)) (suc k)) × Satisfies-under free g (from (from w (suc j)) k)
@@ -118,17 +127,20 @@ holds-ticks : (c : Condition) (x : Option Letter) → Holds x c → Ticks (on c)
 holds-ticks c none h = h
 holds-ticks c (some l) h = h
 
-until-to : (c : Condition) (f g f′ g′ : Formula) (w : Word) → ((x : Word) → Satisfies-under (on c) f x → Satisfies-under free f′ x) → ((x : Word) → Satisfies-under (on c) g x → Satisfies-under free g′ x)
+until-to : (c : Condition) (f g f′ g′ : Formula) (w : Word) → ((x : Word) → Satisfies-under (on c) f x → Satisfies-under free f′ x)
+    → ((x : Word) → Satisfies-under (on c) g x → Satisfies-under free g′ x)
     → Satisfies-under (on c) (until f g) w → Satisfies-under free (until (negated (conjoined (strong c) (negated f′))) (conjoined (strong c) g′)) w
 until-to c f g f′ g′ w hf hg (k, h, s, b) =
     free-until (negated (conjoined (strong c) (negated f′))) (conjoined (strong c) g′) w .1 (
       k,
       ticks-present (on c) (seen w k) h,
       (free-strong c (from w k) .1 (rw (first-of k w) (ticks-holds c (seen w k) h)), hg (from w k) s),
-      λ j i (q, n). n (rw (mir-twice (from w j)) (hf (from w j) (b j i (holds-ticks c (seen (mir w) j) (rw (seen-mir-from j w) at (free-strong c (mir (from w j)) .0 q)))))),
+      λ j i (q, n). n (rw (mir-twice (from w j))
+          (hf (from w j) (b j i (holds-ticks c (seen (mir w) j) (rw (seen-mir-from j w) at (free-strong c (mir (from w j)) .0 q)))))),
     )
 
-until-from : (c : Condition) (f g f′ g′ : Formula) (w : Word) → ((x : Word) → Satisfies-under free f′ x → Satisfies-under (on c) f x) → ((x : Word) → Satisfies-under free g′ x → Satisfies-under (on c) g x)
+until-from : (c : Condition) (f g f′ g′ : Formula) (w : Word) → ((x : Word) → Satisfies-under free f′ x → Satisfies-under (on c) f x)
+    → ((x : Word) → Satisfies-under free g′ x → Satisfies-under (on c) g x)
     → Satisfies-under free (until (negated (conjoined (strong c) (negated f′))) (conjoined (strong c) g′)) w → Satisfies-under (on c) (until f g) w
 until-from c f g f′ g′ w hf hg x =
     let (k, p, (h, s), b) = free-until (negated (conjoined (strong c) (negated f′))) (conjoined (strong c) g′) w .0 x in (
@@ -136,7 +148,11 @@ until-from c f g f′ g′ w hf hg x =
       holds-ticks c (seen w k) (rw (first-of k w) at (free-strong c (from w k) .0 h)),
       hg (from w k) s,
       λ j i q. settle (decide (on c) f (from w j))
-          (λ n. b j i (free-strong c (mir (from w j)) .1 (rw (seen-mir-from j w) (ticks-holds c (seen (mir w) j) q)), λ y. n (hf (from w j) (rw (mir-twice (from w j)) at y)))),
+          (λ n. b j i (
+            free-strong c (mir (from w j)) .1 (rw (seen-mir-from j w) (ticks-holds c (seen (mir w) j) q)),
+            λ y. n
+                (hf (from w j) (rw (mir-twice (from w j)) at y)),
+          )),
     )
 
 pub clock-removal : (c : Condition) (f : Formula) (w : Word) → Satisfies-under (on c) f w ↔ Satisfies-under free (unclock c f) w

@@ -46,11 +46,13 @@ one-tick c b [] o = absurd (o .0)
 one-tick c b (l ∷ []) o = (conjoin-left l c b (o .1), conjoin-right l c b (o .1))
 one-tick c b (l ∷ (m ∷ w)) o = absurd (o .0 .0)
 
-wait-cons : (c b : Condition) (l : Letter) (u w : List Letter) → Matches-under free (condition (negation c)) (l ∷ u) → Tick-under (on c) w × Ends b w → Tick-under (on c) ((l ∷ u) ++ w) × Ends b ((l ∷ u) ++ w)
+wait-cons : (c b : Condition) (l : Letter) (u w : List Letter) → Matches-under free (condition (negation c)) (l ∷ u) → Tick-under (on c) w × Ends b w
+    → Tick-under (on c) ((l ∷ u) ++ w) × Ends b ((l ∷ u) ++ w)
 wait-cons c b l [] w o t = (tick-cons c l w (o .1) (t .0), ends-cons b l w (t .1))
 wait-cons c b l (m ∷ u) w o t = absurd (o .0 .0)
 
-tick-from : (c b : Condition) {u : List Letter} (w : List Letter) → Matches-under free (condition (conjunction c b)) w → Repeats (Matches-under free (condition (negation c))) u → Tick-under (on c) (u ++ w) × Ends b (u ++ w)
+tick-from : (c b : Condition) {u : List Letter} (w : List Letter) → Matches-under free (condition (conjunction c b)) w
+    → Repeats (Matches-under free (condition (negation c))) u → Tick-under (on c) (u ++ w) × Ends b (u ++ w)
 tick-from c b w o done = one-tick c b w o
 tick-from c b w o (more l u x e p q) = rw (e, append-assoc u x w) (wait-cons c b l u (x ++ w) p (tick-from c b w o q))
 

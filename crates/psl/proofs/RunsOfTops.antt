@@ -78,7 +78,8 @@ module _ (L K : Lang) where
       let z = tops-parts (suc (t .0)) (t .1 .0) (t .1 .1) (t .1 .2) in
       go (z .0) (z .1) (t .1 .2 ∙ (let a = z .2 in let b = z .3 in cc)) (subst L (z .2) (t .1 .3)) (subst K (z .3) (t .1 .4))
     where
-      go : (i j : ℕ) → run-of-tops (suc (t .0)) ≡ run-of-tops i ++ run-of-tops j → L (run-of-tops i) → K (run-of-tops j) → (L [] × Some K) ⊎ (Some L × (K [] ⊎ Some K))
+      go : (i j : ℕ) → run-of-tops (suc (t .0)) ≡ run-of-tops i ++ run-of-tops j → L (run-of-tops i) → K (run-of-tops j)
+          → (L [] × Some K) ⊎ (Some L × (K [] ⊎ Some K))
       go zero zero e x y = nil-cons (sym e)
       go zero (suc j) e x y = inl (x, (j, y))
       go (suc i) zero e x y = inr ((i, x), inl y)

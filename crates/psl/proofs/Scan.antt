@@ -128,7 +128,8 @@ module _ (k : Clock) (SG : Word → Type 0) (G : List Letter → Bool) where
       there : (j : ℕ) → Place w j → Tick-under k (front w (suc j)) → SG (from w j) → T (A || B)
       there zero p h s = or-left A B (and-in (ticks k l) (G (l ∷ v)) h (g (l ∷ v) .0 s))
       there (suc j) p h s =
-          or-right A B (and-in (not (ticks k (mirror l)) || false) (scan k nowhere G t v) (or-left (not (ticks k (mirror l))) false (subst T (waits-not k l) (h .0))) (ih .0 (j, p, h .1, s)))
+          or-right A B (and-in (not (ticks k (mirror l)) || false) (scan k nowhere G t v)
+          (or-left (not (ticks k (mirror l))) false (subst T (waits-not k l) (h .0))) (ih .0 (j, p, h .1, s)))
 
       back : T A ⊎ T B → First k SG w
       back (inl x) = let y = and-out (ticks k l) (G (l ∷ v)) x in (zero, tt, y .0, g (l ∷ v) .1 (y .1))
@@ -152,7 +153,13 @@ head-right b t (l ∷ v) = (λ h. h, λ h. h)
 pub strong-right : (k : Clock) (b : Condition) (t : Tail) (v : List Letter) → Satisfies-under k (strong b) (with-tail v t) ↔ T (scan k nowhere (first b t) t v)
 strong-right k b t v =
     let e = first-right k (λ w. Holds (seen w zero) b) (first b t) t (head-right b t) v in (
-      λ x. e .0 (x .0, holds-present (seen (with-tail v t) (x .0)) b (x .2), x .1, subst (λ (o : Option Letter). Holds o b) (sym (first-of (x .0) (with-tail v t))) (x .2)),
+      λ x. e .0 (
+        x .0,
+        holds-present (seen (with-tail v t) (x .0)) b (x .2),
+        x .1,
+        subst (λ (o : Option Letter). Holds o b)
+            (sym (first-of (x .0) (with-tail v t))) (x .2),
+      ),
       λ x. let y = e .1 x in (y .0, y .2, subst (λ (o : Option Letter). Holds o b) (first-of (y .0) (with-tail v t)) (y .3)),
     )
 
@@ -161,12 +168,14 @@ module _ (k : Clock) (b : Condition) (t : Tail) where
   Fails w = Holds (seen (mir w) zero) b → ⊥
 
   fails-right : (u : List Letter) → Fails (with-tail u (mirror-tail t)) ↔ T (not (first b t (map mirror u)))
-  fails-right u = iff-not (first b t (map mirror u)) (subst (λ (s : Tail). Holds (seen (with-tail (map mirror u) s) zero) b ↔ T (first b t (map mirror u))) (sym (tail-twice t)) (head-right b t (map mirror u)))
+  fails-right u = iff-not (first b t (map mirror u))
+      (subst (λ (s : Tail). Holds (seen (with-tail (map mirror u) s) zero) b ↔ T (first b t (map mirror u))) (sym (tail-twice t)) (head-right b t (map mirror u)))
 
   at-again : (w : Word) (j : ℕ) → seen (mir (from (mir w) j)) zero ≡ seen w j
   at-again w j = ap (λ (x : Word). seen (mir x) zero) (from-mir j w) ∙ ap (λ (x : Word). seen x zero) (mir-twice (from w j)) ∙ first-of j w
 
-  pub weak-right : (v : List Letter) → Satisfies-under k (weak b) (with-tail v t) ↔ T (not (scan k nowhere (λ u. not (first b t (map mirror u))) (mirror-tail t) (map mirror v)))
+  pub weak-right : (v : List Letter)
+      → Satisfies-under k (weak b) (with-tail v t) ↔ T (not (scan k nowhere (λ u. not (first b t (map mirror u))) (mirror-tail t) (map mirror v)))
   weak-right v = (λ s. iff .0 (λ x. there s (x .0) (x .1) (x .2) (x .3)), λ h j p q. settle (holds? (seen w j) b) (back (iff .1 h) j p q))
     where
       w : Word
@@ -185,11 +194,18 @@ before : (w : Word) (i j : ℕ) → Place (from w (suc i)) j → Place w i
 before w i j p = place-below i (suc i) w (omega arith) (subst Present (first-of (suc i) w) (place-first j (from w (suc i)) p))
 
 pub next-right : (k : Clock) (S : Word → Type 0) (E : List Letter → Bool) (t : Tail) → ((v : List Letter) → S (with-tail v t) ↔ T (E v)) → (v : List Letter)
-    → ((i : ℕ) × (j : ℕ) × Tick-under k (front (with-tail v t) (suc i)) × Place (from (with-tail v t) (suc i)) j × Tick-under k (front (from (with-tail v t) (suc i)) (suc j)) × S (from (from (with-tail v t) (suc i)) j))
+    → ((i : ℕ) × (j : ℕ) × Tick-under k (front (with-tail v t) (suc i)) × Place (from (with-tail v t) (suc i)) j × Tick-under k
+    (front (from (with-tail v t) (suc i)) (suc j)) × S (from (from (with-tail v t) (suc i)) j))
     ↔ T (scan k nowhere (λ u. scan k nowhere E t (behead u)) t v)
 next-right k S E t e v =
     let i = first-right k (λ w. First k S (rest w)) (λ u. scan k nowhere E t (behead u)) t (λ u. first-right k S E t e (behead u)) v in (
-      λ x. i .0 (x .0, before (with-tail v t) (x .0) (x .1) (x .3), x .2, subst (λ (w : Word). First k S w) (rest-from (with-tail v t) (x .0)) (x .1, x .3, x .4, x .5)),
+      λ x. i .0 (
+        x .0,
+        before (with-tail v t) (x .0) (x .1) (x .3),
+        x .2,
+        subst (λ (w : Word). First k S w) (rest-from (with-tail v t) (x .0))
+            (x .1, x .3, x .4, x .5),
+      ),
       λ x.
           let y = i .1 x in
           let z : First k S (from (with-tail v t) (suc (y .0))) = subst (λ (w : Word). First k S w) (sym (rest-from (with-tail v t) (y .0))) (y .3) in

@@ -87,7 +87,8 @@ numbered-last c (sequence-at r d) l k = numbered-last (on d) r l k
 -- live by the number
 abbrev pub numbered-live : Clock → Sequence → ℕ → Bool
 numbered-live c (condition b) k = numbered-leaf-live c k
-numbered-live c (concat r s) k = at-sum (states c r) (λ p. (numbered-final c r p && live-start s) || (numbered-live c r p && (null s || live-start s))) (numbered-live c s) k
+numbered-live c (concat r s) k =
+    at-sum (states c r) (λ p. (numbered-final c r p && live-start s) || (numbered-live c r p && (null s || live-start s))) (numbered-live c s) k
 numbered-live c (fusion r s) k = at-sum (states c r) (λ p. numbered-live c r p && live-start s) (numbered-live c s) k
 numbered-live c (either r s) k = at-sum (states c r) (numbered-live c r) (numbered-live c s) k
 numbered-live c (both r s) k = at-pair (states c s) (λ p q. numbered-live c r p && numbered-live c s q) k
@@ -110,9 +111,11 @@ numbered-init c (sequence-at r d) l q = numbered-init (on d) r l q
 abbrev pub numbered-step : Clock → Sequence → Letter → ℕ → ℕ → Bool
 numbered-step c (condition b) l p q = numbered-leaf-step c b l p q
 numbered-step c (concat r s) l p q =
-    at-sum (states c r) (λ p. at-sum (states c r) (numbered-step c r l p) (λ q. numbered-final c r p && numbered-init c s l q) q) (λ p. at-sum (states c r) (λ q. false) (numbered-step c s l p) q) p
+    at-sum (states c r) (λ p. at-sum (states c r) (numbered-step c r l p) (λ q. numbered-final c r p && numbered-init c s l q) q)
+    (λ p. at-sum (states c r) (λ q. false) (numbered-step c s l p) q) p
 numbered-step c (fusion r s) l p q =
-    at-sum (states c r) (λ p. at-sum (states c r) (numbered-step c r l p) (λ q. numbered-last c r l p && numbered-init c s l q) q) (λ p. at-sum (states c r) (λ q. false) (numbered-step c s l p) q) p
+    at-sum (states c r) (λ p. at-sum (states c r) (numbered-step c r l p) (λ q. numbered-last c r l p && numbered-init c s l q) q)
+    (λ p. at-sum (states c r) (λ q. false) (numbered-step c s l p) q) p
 numbered-step c (either r s) l p q =
     at-sum (states c r) (λ p. at-sum (states c r) (numbered-step c r l p) (λ q. false) q) (λ p. at-sum (states c r) (λ q. false) (numbered-step c s l p) q) p
 numbered-step c (both r s) l p q = at-pair (states c s) (λ p p′. at-pair (states c s) (λ q q′. numbered-step c r l p q && numbered-step c s l p′ q′) q) p

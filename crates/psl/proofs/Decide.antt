@@ -27,11 +27,11 @@ pub matches? : (k : Clock) (r : Sequence) (v : List Letter) → Dec (Matches-und
 matches? k r v = dec-iff (accepts-right k r v) (dec-T (accepts k r v))
 
 beyond? : (k : Clock) (r : Sequence) (v : List Letter) → Dec ((m : ℕ) × Matches-under k r (v ++ run-of-tops (suc m)))
-beyond? k r v = go (dec-some-below (suc (states k r)) (λ m. Matches-under k r (v ++ run-of-tops (suc m))) (λ m. matches? k r (v ++ run-of-tops (suc m))))
+beyond? k r v = go (dec-some-below (states k r) (λ m. Matches-under k r (v ++ run-of-tops (suc m))) (λ m. matches? k r (v ++ run-of-tops (suc m))))
   where
-    go : Dec ((m : ℕ) × (m < suc (states k r)) × Matches-under k r (v ++ run-of-tops (suc m))) → Dec ((m : ℕ) × Matches-under k r (v ++ run-of-tops (suc m)))
+    go : Dec ((m : ℕ) × (m < states k r) × Matches-under k r (v ++ run-of-tops (suc m))) → Dec ((m : ℕ) × Matches-under k r (v ++ run-of-tops (suc m)))
     go (yes (m, h, x)) = yes (m, x)
-    go (no n) = no (λ x. let (m, h, y) = tops-after k r v x in n (m, omega arith, y))
+    go (no n) = no (λ x. n (tops-after k r v x))
 
 reach? : (k : Clock) (r : Sequence) (S : Word → Type 0) → ((x : Word) → Dec (S x)) → (w : Word) → Dec (Reach k r S w)
 reach? k r S d w =

@@ -10,9 +10,9 @@ use lib.Dec.{T}
 use Rattle.psl.specs.Syntax.{Sequence}
 use Rattle.psl.specs.Letter.{Letter, top}
 use Rattle.psl.specs.Clocked.{more}
-use Rattle.psl.specs.Automaton.{states, State, last, step, any, run-of-tops}
+use Rattle.psl.specs.Automaton.{states, State, final, step, any, run-of-tops}
 use Rattle.psl.specs.OptionalClock.{Clock, Matches-under}
-use Rattle.psl.proofs.Accept.{Rest, last-right, init-right, step-right, any-in, any-out, after-right}
+use Rattle.psl.proofs.Accept.{Rest, final-right, init-right, step-right, any-in, any-out, after-right}
 use Rattle.psl.proofs.Tests.{and-in, and-out, or-left, or-right, or-out, not-right, dec-T}
 use Rattle.psl.proofs.Totals.{total-most, total-more, one, count, one-more, count-most, count-more}
 
@@ -32,9 +32,9 @@ added k r S R = elim (dec-T (any k r (λ p. R p && not (S p)))) [
     surely false n = n (λ x. x)
 
 module _ (k : Clock) (r : Sequence) where
-  -- some run of one up to n + 1 tops completes a match from the state
+  -- some run of at most n tops completes a match from the state
   abbrev within : ℕ → State k r → Bool
-  within zero p = last k r top p
+  within zero p = final k r p
   within (suc n) p = within n p || any k r (λ q. step k r top p q && within n q)
 
   further : (n : ℕ) (p : State k r) → T (within n p) → T (within (suc n) p)
@@ -58,7 +58,7 @@ module _ (k : Clock) (r : Sequence) where
   grows : (n : ℕ) → (p : State k r) × T (within (suc n) p) × (T (within n p) → ⊥) → count k r (within n) < count k r (within (suc n))
   grows n (p, x, y) = count-more k r (within n) (within (suc n)) (further n) p x y
 
-  -- a state that the second top adds leads to one that the first completes
+  -- a state that the first top adds leads to one in which a match may end
   grows-first : (p : State k r) × T (within 1 p) × (T (within 0 p) → ⊥) → 1 ≤ count k r (within 0)
   grows-first (p, x, y) = go (or-out (within 0 p) (any k r (λ q. step k r top p q && within 0 q)) x)
     where
@@ -94,8 +94,8 @@ module _ (k : Clock) (r : Sequence) where
   within-from zero p x = x
   within-from (suc n) p x = further n p (within-from n p x)
 
-  within-out : (n : ℕ) (p : State k r) → T (within n p) → (m : ℕ) × (m ≤ n) × Rest k r p (run-of-tops (suc m))
-  within-out zero p x = (0, omega arith, last-right k r top p .1 x)
+  within-out : (n : ℕ) (p : State k r) → T (within n p) → (m : ℕ) × (m ≤ n) × Rest k r p (run-of-tops m)
+  within-out zero p x = (0, omega arith, final-right k r p .1 x)
   within-out (suc n) p x =
       elim (or-out (within n p) (any k r (λ q. step k r top p q && within n q)) x) [
         | inl y ↦ let (m, h, z) = within-out n p y in (m, omega arith, z)
@@ -103,14 +103,14 @@ module _ (k : Clock) (r : Sequence) where
             let (q, z) = any-out k r (λ q. step k r top p q && within n q) y in
             let (a, b) = and-out (step k r top p q) (within n q) z in
             let (m, h, c) = within-out n q b in
-            (suc m, omega arith, step-right k r top p (run-of-tops (suc m)) .1 (q, a, c))
+            (suc m, omega arith, step-right k r top p (run-of-tops m) .1 (q, a, c))
       ]
 
-  within-in : (m : ℕ) (p : State k r) → Rest k r p (run-of-tops (suc m)) → T (within (pred (states k r)) p)
-  within-in zero p x = within-from (pred (states k r)) p (last-right k r top p .0 x)
+  within-in : (m : ℕ) (p : State k r) → Rest k r p (run-of-tops m) → T (within (pred (states k r)) p)
+  within-in zero p x = within-from (pred (states k r)) p (final-right k r p .0 x)
   within-in (suc m) p x =
       let n = pred (states k r) in
-      let (q, a, y) = step-right k r top p (run-of-tops (suc m)) .0 x in
+      let (q, a, y) = step-right k r top p (run-of-tops m) .0 x in
       settled p
       (or-right (within n p) (any k r (λ q. step k r top p q && within n q))
       (any-in k r (λ q. step k r top p q && within n q) q (and-in (step k r top p q) (within n q) a (within-in m q y))))
@@ -121,19 +121,24 @@ module _ (k : Clock) (r : Sequence) where
       let more = total-more k r (λ p. 0) (λ p. 1) (λ p. omega arith) p (omega arith) in
       omega (arith, mul-one (states k r))
 
-  -- from a state: at most as many tops as there are states
-  pub tops-enough : (p : State k r) → ((m : ℕ) × Rest k r p (run-of-tops (suc m))) → (m : ℕ) × (m < states k r) × Rest k r p (run-of-tops (suc m))
-  tops-enough p (m, x) = let (n, h, y) = within-out (pred (states k r)) p (within-in m p x) in (n, omega (arith, some-state p), y)
+  -- any run that completes a match has one of fewer tops than there are states
+  fewer-tops : (m : ℕ) (p : State k r) → Rest k r p (run-of-tops m) → (n : ℕ) × (n < states k r) × Rest k r p (run-of-tops n)
+  fewer-tops m p x = let (n, h, y) = within-out (pred (states k r)) p (within-in m p x) in (n, omega (arith, some-state p), y)
 
-  -- after a list: at most one more
+  -- so any that is not empty has one of at most as many, from a state and after a list
+  pub tops-enough : (p : State k r) → ((m : ℕ) × Rest k r p (run-of-tops (suc m))) → (m : ℕ) × (m < states k r) × Rest k r p (run-of-tops (suc m))
+  tops-enough p (m, x) =
+      let (q, a, y) = step-right k r top p (run-of-tops m) .0 x in
+      let (n, h, z) = fewer-tops m q y in
+      (n, h, step-right k r top p (run-of-tops n) .1 (q, a, z))
+
   pub tops-after : (v : List Letter) → ((m : ℕ) × Matches-under k r (v ++ run-of-tops (suc m)))
-      → (m : ℕ) × (m ≤ states k r) × Matches-under k r (v ++ run-of-tops (suc m))
-  tops-after [] (zero, x) = (0, omega arith, x)
-  tops-after [] (suc m, x) =
-      let (q, a, y) = init-right k r top (run-of-tops (suc m)) .0 x in
-      let (n, h, z) = tops-enough q (m, y) in
-      (suc n, omega arith, init-right k r top (run-of-tops (suc n)) .1 (q, a, z))
+      → (m : ℕ) × (m < states k r) × Matches-under k r (v ++ run-of-tops (suc m))
+  tops-after [] (m, x) =
+      let (q, a, y) = init-right k r top (run-of-tops m) .0 x in
+      let (n, h, z) = fewer-tops m q y in
+      (n, h, init-right k r top (run-of-tops n) .1 (q, a, z))
   tops-after (l ∷ v) (m, x) =
       let (q, a, y) = after-right k r l v (run-of-tops (suc m)) .0 x in
       let (n, h, z) = tops-enough q (m, y) in
-      (n, omega arith, after-right k r l v (run-of-tops (suc n)) .1 (q, a, z))
+      (n, h, after-right k r l v (run-of-tops (suc n)) .1 (q, a, z))

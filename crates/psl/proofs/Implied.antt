@@ -1,7 +1,8 @@
 -- The theorems about what the meaning implies.
 use mathlib.Core.List.{List, _++_}
+use mathlib.Core.Path.{_≡_, refl, ap₂}
 use mathlib.Core.Logic.{_↔_}
-use Prim.Native.Nat.{ℕ, suc, _≤_, _<_}
+use Prim.Native.Nat.{ℕ, suc, _+_, _*_, _≤_, _<_}
 use native.Mathlib.Nat.{mul-le-mul}
 use native.Mathlib.Omega.{arith}
 use lib.Dec.{T}
@@ -16,8 +17,8 @@ use Rattle.psl.specs.Verdict.{Judged, held-for-good, holds, pending, failed-fo
 use Rattle.psl.specs.Automaton.{states, State, Completes, run-of-tops, live}
 use Rattle.psl.specs.OptionalClock.{Clock, free, on}
 use Rattle.psl.specs.Order.{topped}
-use Rattle.psl.specs.Theorems.{Abort-by-first-place, Weak-by-longest-prefix, States-numbered, Automaton-accepts-matches, Tops-decided, Tops-enough}
-use Rattle.psl.specs.Theorems.{Meanings-decidable, Clock-removal}
+use Rattle.psl.specs.Theorems.{Abort-by-first-place, Weak-by-longest-prefix, without-fusion, States-numbered, Automaton-accepts-matches}
+use Rattle.psl.specs.Theorems.{Tops-decided, Tops-enough, Meanings-decidable, Clock-removal}
 use Rattle.psl.proofs.Accept.{Rest, accepts-right, completes-right}
 use Rattle.psl.proofs.ClockedMeaning.{clock-matches, clock-satisfies}
 use Rattle.psl.proofs.Decide.{matches?, decide}
@@ -30,7 +31,7 @@ use Rattle.psl.proofs.Number.{number-below, state-at, number-apart}
 use Rattle.psl.proofs.RemovalFormulas.{clock-removal}
 use Rattle.psl.proofs.RemovalMatches.{removal-matches}
 use Rattle.psl.proofs.RunsOfTops.{late-some}
-use Rattle.psl.proofs.Tests.{iff-trans, iff-sym, dec-iff}
+use Rattle.psl.proofs.Tests.{and-out, iff-trans, iff-sym, dec-iff}
 use Rattle.psl.proofs.UnclockedMeaning.{erase-sequence, erase, free-matches, free-satisfies}
 use Rattle.psl.specs.Table.{size}
 
@@ -60,8 +61,21 @@ states-within c empty = omega arith
 states-within c (star r) = states-within c r
 states-within c (sequence-at r d) = states-within d r
 
+states-exactly : (c : Condition) (r : Sequence) → T (without-fusion r) → states (on c) r ≡ size r
+states-exactly c (condition b) t = refl
+states-exactly c (concat r s) t =
+    let (x, y) = and-out (without-fusion r) (without-fusion s) t in ap₂ _+_ (states-exactly c r x) (states-exactly c s y)
+states-exactly c (fusion r s) t = absurd t
+states-exactly c (either r s) t =
+    let (x, y) = and-out (without-fusion r) (without-fusion s) t in ap₂ _+_ (states-exactly c r x) (states-exactly c s y)
+states-exactly c (both r s) t =
+    let (x, y) = and-out (without-fusion r) (without-fusion s) t in ap₂ _*_ (states-exactly c r x) (states-exactly c s y)
+states-exactly c empty t = refl
+states-exactly c (star r) t = states-exactly c r t
+states-exactly c (sequence-at r d) t = states-exactly d r t
+
 pub states-numbered : States-numbered
-states-numbered = record { below = number-below; apart = number-apart; each = state-at; within-size = states-within }
+states-numbered = record { below = number-below; apart = number-apart; each = state-at; within-size = states-within; exactly-size = states-exactly }
 
 pub automaton-accepts-matches : Automaton-accepts-matches
 automaton-accepts-matches = record {
@@ -94,8 +108,8 @@ bounded R e f (n, x) = let (m, h, y) = f (n, e n .0 x) in (m, h, e m .1 y)
 pub tops-sufficient : Tops-enough
 tops-sufficient = record {
   from-state = λ k r p. bounded (λ n. n < states k r) (λ n. iff-sym (completes-right k r p (run-of-tops (suc n)))) (tops-enough k r p);
-  clocked = λ c r v. bounded (λ n. n ≤ states (on c) r) (λ n. clock-matches c r (v ++ run-of-tops (suc n))) (tops-after (on c) r v);
-  unclocked = λ r t v. bounded (λ n. n ≤ states free r) (λ n. clock-free-matches r t (v ++ run-of-tops (suc n))) (tops-after free r v);
+  clocked = λ c r v. bounded (λ n. n < states (on c) r) (λ n. clock-matches c r (v ++ run-of-tops (suc n))) (tops-after (on c) r v);
+  unclocked = λ r t v. bounded (λ n. n < states free r) (λ n. clock-free-matches r t (v ++ run-of-tops (suc n))) (tops-after free r v);
 }
 
 pub meanings-decidable : Meanings-decidable

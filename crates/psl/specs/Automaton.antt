@@ -12,7 +12,7 @@ use Rattle.psl.specs.OptionalClock.{Clock, free, on, ticks}
 pub data Leaf : Type 0 where
   waiting over : Leaf
 
--- under a clock a leaf waits or is over; without one it is over after its letter
+-- the states of a condition: two under a clock, and free of one only that its letter was read
 abbrev pub Leaf-state : Clock → Type 0
 Leaf-state free = Unit {0}
 Leaf-state (on c) = Leaf

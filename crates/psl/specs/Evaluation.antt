@@ -1,4 +1,4 @@
--- The meaning over an optional clock as a Boolean program over the letters and the tail.
+-- The meaning over an optional clock as a Boolean program over the letters and the tail; proved to be the meaning, so no reader need believe it.
 use mathlib.Core.Bool.{Bool, true, false, not, _&&_, _||_}
 use mathlib.Core.List.{List, [], _∷_, map}
 use Prim.Native.Nat.{ℕ, zero, suc}

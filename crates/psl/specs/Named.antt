@@ -47,7 +47,7 @@ abbrev pub filled-clock : (ℕ → Condition) → Clock → Clock
 filled-clock f free = free
 filled-clock f (on c) = on (filled f c)
 
--- the two letters, and so their mirrors, satisfy the same conditions by name, those of f and those of g
+-- the letters l and m satisfy the same conditions by name, l those of f and m those of g, and so do their mirrors
 abbrev pub Like : (ℕ → Condition) → (ℕ → Condition) → Letter → Letter → Type 0
 Like f g l m = (n : ℕ) → (satisfies l (f n) ≡ satisfies m (g n)) × (satisfies (mirror l) (f n) ≡ satisfies (mirror m) (g n))
 

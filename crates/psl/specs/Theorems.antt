@@ -1,10 +1,12 @@
 -- What the meaning implies, each theorem for all letters, words, conditions, sequences and formulas.
+use mathlib.Core.Bool.{Bool, true, false, _&&_}
 use mathlib.Core.List.{List, _∷_, _++_}
 use mathlib.Core.Path.{_≡_}
 use mathlib.Core.Logic.{_↔_}
 use Prim.Native.Nat.{ℕ, suc, _+_, _≤_, _<_}
 use lib.Dec.{T}
-use Rattle.psl.specs.Syntax.{Condition, Sequence, Formula, strong-sequence, weak-sequence, abort}
+use Rattle.psl.specs.Syntax.{Condition, Sequence, condition, concat, fusion, either, both, empty, star, sequence-at, Formula, strong-sequence}
+use Rattle.psl.specs.Syntax.{weak-sequence, abort}
 use Rattle.psl.specs.Letter.{Letter}
 use Rattle.psl.specs.Word.{end, tops, bottoms, Word, with-tail, with-tops, mir, seen, Holds, front}
 use Rattle.psl.specs.Clocked.{Matches, Satisfies}
@@ -58,12 +60,24 @@ abbrev pub Weak-by-longest-prefix : Type 0
 Weak-by-longest-prefix =
     (c : Condition) (r : Sequence) (w : Word) → Nonempty w → Satisfies c (weak-sequence r) w ↔ Satisfies c (strong-sequence r) (topped w)
 
--- the states of the automaton of a sequence number exactly `states`, which is at most the size of the sequence
+-- the sequence has no r:s
+abbrev pub without-fusion : Sequence → Bool
+without-fusion (condition b) = true
+without-fusion (concat r s) = without-fusion r && without-fusion s
+without-fusion (fusion r s) = false
+without-fusion (either r s) = without-fusion r && without-fusion s
+without-fusion (both r s) = without-fusion r && without-fusion s
+without-fusion empty = true
+without-fusion (star r) = without-fusion r
+without-fusion (sequence-at r d) = without-fusion r
+
+-- the states of the automaton number exactly `states`: under a clock at most the size of the sequence, and the size itself where there is no r:s
 pub record States-numbered : Type 0 where
   pub below : (k : Clock) (r : Sequence) (p : State k r) → number k r p < states k r
   pub apart : (k : Clock) (r : Sequence) (p q : State k r) → number k r p ≡ number k r q → p ≡ q
   pub each : (k : Clock) (r : Sequence) (n : ℕ) → n < states k r → (p : State k r) × (number k r p ≡ n)
   pub within-size : (c : Condition) (r : Sequence) → states (on c) r ≤ size r
+  pub exactly-size : (c : Condition) (r : Sequence) → T (without-fusion r) → states (on c) r ≡ size r
 
 -- the automaton of a sequence accepts exactly the lists that match it
 pub record Automaton-accepts-matches : Type 0 where
@@ -80,14 +94,14 @@ pub record Tops-decided : Type 0 where
   pub ticked-list : (r : Sequence) → T (ticked r) → (v : List Letter) → ((n : ℕ) × Unclocked-matches r (v ++ run-of-tops (suc n))) ↔ T (extends free r v)
   pub image-ticked : (c : Condition) (r : Sequence) → T (ticked (unclock-sequence c r))
 
--- what one or more tops complete, at most as many tops as there are states complete from a state, and at most one more after a list
+-- what one or more tops complete, from a state or after a list, at most as many tops as there are states complete
 pub record Tops-enough : Type 0 where
   pub from-state : (k : Clock) (r : Sequence) (p : State k r) → ((n : ℕ) × Completes k r p (run-of-tops (suc n)))
       → (n : ℕ) × (n < states k r) × Completes k r p (run-of-tops (suc n))
   pub clocked : (c : Condition) (r : Sequence) (v : List Letter) → ((n : ℕ) × Matches c r (v ++ run-of-tops (suc n)))
-      → (n : ℕ) × (n ≤ states (on c) r) × Matches c r (v ++ run-of-tops (suc n))
+      → (n : ℕ) × (n < states (on c) r) × Matches c r (v ++ run-of-tops (suc n))
   pub unclocked : (r : Sequence) → T (clock-free r) → (v : List Letter) → ((n : ℕ) × Unclocked-matches r (v ++ run-of-tops (suc n)))
-      → (n : ℕ) × (n ≤ states free r) × Unclocked-matches r (v ++ run-of-tops (suc n))
+      → (n : ℕ) × (n < states free r) × Unclocked-matches r (v ++ run-of-tops (suc n))
 
 -- both meanings are decidable, of every list and on every word
 pub record Meanings-decidable : Type 0 where

@@ -56,7 +56,7 @@ pub fn tops_decided()
     ensures { λ _. ⌜ Tops-decided ⌝ }
 {}
 
-// No more tops are needed than there are states, and one more after a list of letters.
+// No more tops are ever needed to complete a match than there are states.
 pub fn tops_enough()
     ensures { λ _. ⌜ Tops-enough ⌝ }
 {}

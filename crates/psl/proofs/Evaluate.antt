@@ -26,7 +26,7 @@ use Rattle.psl.proofs.Mirrors.{tail-twice}
 use Rattle.psl.proofs.Number.{some-in, some-out}
 use Rattle.psl.proofs.Reach.{Reach, Inside, Past, reach-parts, Breaks, mirrored-back, implies-unbroken}
 use Rattle.psl.proofs.Scan.{until-right, strong-right, weak-right, next-right}
-use Rattle.psl.proofs.Tests.{and-in, and-out, iff-and, iff-or, iff-trans, iff-not, dec-T, dec-iff}
+use Rattle.psl.proofs.Tests.{and-in, and-out, and-true, iff-and, iff-or, iff-trans, iff-not, dec-T, dec-iff}
 use mathlib.Core.Bool.{cond as if}
 
 -- aborts
@@ -105,10 +105,6 @@ module _ (k : Clock) (r : Sequence) (long : Stretches k r) (S : Word → Type 0)
 -- every word
 abbrev Anything : Word → Type 0
 Anything w = Unit {0}
-
-and-true : (b : Bool) → (b && true) ≡ b
-and-true true = refl
-and-true false = refl
 
 topped-is : (t : Tail) → is-tops (topped-tail t) ≡ (is-tops t || is-end t)
 topped-is end = refl

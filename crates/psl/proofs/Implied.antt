@@ -89,7 +89,7 @@ iff-some e = ((λ (n, x). (n, e n .0 x)), (λ (n, x). (n, e n .1 x)))
 
 stretched : (k : Clock) (r : Sequence) → Stretches k r → (p : State k r) → ((n : ℕ) × Completes k r p (run-of-tops (suc n))) ↔ T (live k r p)
 stretched k r x p =
-    iff-trans (iff-some (λ n. iff-sym (completes-right k r p (run-of-tops (suc n))))) (x .to-live p, λ t. late-some (Rest k r p) (x .from-live p t))
+    iff-trans (iff-some (λ n. iff-sym (completes-right k r p (run-of-tops (suc n))))) (x .state p .1, λ t. late-some (Rest k r p) (x .state p .0 t))
 
 pub tops-decided : Tops-decided
 tops-decided = record {

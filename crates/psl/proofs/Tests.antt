@@ -27,7 +27,6 @@ pub or-out : (a b : Bool) → T (a || b) → T a ⊎ T b
 or-out true b x = inl tt
 or-out false b x = inr x
 
--- tests
 pub not-right : (b : Bool) → T (not b) ↔ (T b → ⊥)
 not-right true = (λ h x. h, λ h. h tt)
 not-right false = (λ h x. x, λ h. tt)
@@ -49,6 +48,10 @@ same-test true true f g = refl
 same-test true false f g = absurd (f tt)
 same-test false true f g = absurd (g tt)
 same-test false false f g = refl
+
+pub and-true : (b : Bool) → (b && true) ≡ b
+and-true true = refl
+and-true false = refl
 
 -- equivalences
 pub iff-and : {A B : Type 0} (a b : Bool) → A ↔ T a → B ↔ T b → (A × B) ↔ T (a && b)
@@ -75,6 +78,7 @@ iff-not b e = (λ n. not-right b .1 (λ x. n (e .1 x)), λ h a. not-right b .0 h
 pub iff-sym : {A B : Type 0} → A ↔ B → B ↔ A
 iff-sym e = (e .1, e .0)
 
+-- decisions
 pub dec-T : (b : Bool) → Dec (T b)
 dec-T true = yes tt
 dec-T false = no (λ x. x)

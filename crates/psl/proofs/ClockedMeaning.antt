@@ -1,26 +1,21 @@
 -- Under a clock the one meaning is the clocked meaning.
 use mathlib.Core.List.{[], _∷_}
-use mathlib.Core.Option.{Option, none, some}
 use mathlib.Core.Logic.{_↔_}
 use Prim.Native.Nat.{suc}
 use Rattle.psl.specs.Syntax.{Condition, Sequence, condition, concat, fusion, either, both, empty, star, sequence-at, Formula, strong, weak}
 use Rattle.psl.specs.Syntax.{strong-sequence, weak-sequence, negated, conjoined, next, until, abort, implies, formula-at}
-use Rattle.psl.specs.Letter.{Letter}
-use Rattle.psl.specs.Word.{Word, mir, seen, Holds, from, front, Tick}
+use Rattle.psl.specs.Word.{Word, mir, seen, from, front, Tick}
 use Rattle.psl.specs.Clocked.{Matches, Satisfies}
-use Rattle.psl.specs.OptionalClock.{on, Ticks, Tick-under, Matches-under, Satisfies-under}
+use Rattle.psl.specs.OptionalClock.{on, Tick-under, Matches-under, Satisfies-under}
 use Rattle.psl.proofs.Same.{iff-sum, iff-both, Same, concat-same, fusion-same, star-same, starts-same, weakly-same, negated-same, abort-same}
 use Rattle.psl.proofs.Same.{implies-same}
+use Rattle.psl.proofs.Ticks.{ticks-holds}
 use Rattle.psl.proofs.Stretches.{tick-place}
 
 tick-same : (c : Condition) → Same (Tick c) (Tick-under (on c))
 tick-same c [] = (λ x. x, λ x. x)
 tick-same c (l ∷ []) = (λ x. x, λ x. x)
 tick-same c (l ∷ (m ∷ v)) = let e = tick-same c (m ∷ v) in (λ x. (x .0, e .0 (x .1)), λ x. (x .0, e .1 (x .1)))
-
-ticks-same : (c : Condition) (x : Option Letter) → Holds x c ↔ Ticks (on c) x
-ticks-same c none = (λ x. x, λ x. x)
-ticks-same c (some l) = (λ x. x, λ x. x)
 
 pub clock-matches : (c : Condition) (r : Sequence) → Same (Matches c r) (Matches-under (on c) r)
 clock-matches c (condition b) = λ v. iff-both (tick-same c v) (λ x. x, λ x. x)
@@ -60,17 +55,17 @@ clock-satisfies c (next f) w = (
 clock-satisfies c (until f g) w = (
   (λ (k, h, s, b). (
     k,
-    ticks-same c (seen w k) .0 h,
+    ticks-holds c (seen w k) .1 h,
     clock-satisfies c g (from w k) .0 s,
     λ j i q. clock-satisfies c f (from w j) .0
-        (b j i (ticks-same c (seen (mir w) j) .1 q)),
+        (b j i (ticks-holds c (seen (mir w) j) .0 q)),
   )),
   (λ (k, h, s, b). (
     k,
-    ticks-same c (seen w k) .1 h,
+    ticks-holds c (seen w k) .0 h,
     clock-satisfies c g (from w k) .1 s,
     λ j i q. clock-satisfies c f (from w j) .1
-        (b j i (ticks-same c (seen (mir w) j) .0 q)),
+        (b j i (ticks-holds c (seen (mir w) j) .1 q)),
   )),
 )
 clock-satisfies c (abort f b) w = abort-same (clock-satisfies c f) b w

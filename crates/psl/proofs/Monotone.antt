@@ -15,6 +15,7 @@ use Rattle.psl.proofs.Bottomless.{ticking-place, matches-place}
 use Rattle.psl.proofs.Order.{below-holds, below-or-bottom, ⊑-mir, ⊑-from, Above, front-raised, tops-raised}
 use Rattle.psl.proofs.Pairwise.{Carries, ends-carry, tick-carry, concat-carry, fusion-carry, repeats-carry, empty-carry}
 use Rattle.psl.proofs.Places.{holds-present, place?, place-first, first-of, place-of-mir, place-in-mir}
+use Rattle.psl.proofs.Ticks.{ticks-holds}
 
 ticks-below : (k : Clock) {l m : Letter} → Below (some l) (some m) → T (ticks k l) → T (ticks k m)
 ticks-below free h t = tt
@@ -51,10 +52,6 @@ ticks-⊑ : (c : Condition) {x y : Option Letter} → Below x y → Ticks (on c)
 ticks-⊑ c low t = absurd t
 ticks-⊑ c high t = tt
 ticks-⊑ c same t = t
-
-pub ticks-holds : (c : Condition) (x : Option Letter) → Ticks (on c) x → Holds x c
-ticks-holds c none h = h
-ticks-holds c (some l) h = h
 
 nonempty-from : (k : ℕ) (w : Word) → Place w k → Nonempty (from w k)
 nonempty-from k w h = rw (first-of k w) h
@@ -134,13 +131,13 @@ satisfies-⊑ c (until f g) w w′ h p p′ (k, t, s, b) =
     let t′ = ticks-⊑ c (h k) t in (
       k,
       t′,
-      satisfies-⊑ c g (from w k) (from w′ k) (⊑-from k w w′ h) (nonempty-holds k w c (ticks-holds c (seen w k) t))
-          (nonempty-holds k w′ c (ticks-holds c (seen w′ k) t′)) s,
+      satisfies-⊑ c g (from w k) (from w′ k) (⊑-from k w w′ h) (nonempty-holds k w c (ticks-holds c (seen w k) .0 t))
+          (nonempty-holds k w′ c (ticks-holds c (seen w′ k) .0 t′)) s,
       λ j i q′.
           let q = ticks-⊑ c (⊑-mir w w′ h j) q′ in
           satisfies-⊑ c f (from w j) (from w′ j) (⊑-from j w w′ h)
-          (nonempty-from j w (place-of-mir w j (holds-present (seen (mir w) j) c (ticks-holds c (seen (mir w) j) q))))
-          (nonempty-from j w′ (place-of-mir w′ j (holds-present (seen (mir w′) j) c (ticks-holds c (seen (mir w′) j) q′))))
+          (nonempty-from j w (place-of-mir w j (holds-present (seen (mir w) j) c (ticks-holds c (seen (mir w) j) .0 q))))
+          (nonempty-from j w′ (place-of-mir w′ j (holds-present (seen (mir w′) j) c (ticks-holds c (seen (mir w′) j) .0 q′))))
           (b j i q),
     )
 satisfies-⊑ c (abort f b) w w′ h p p′ (inl s) = inl (satisfies-⊑ c f w w′ h p p′ s)

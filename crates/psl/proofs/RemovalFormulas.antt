@@ -11,16 +11,15 @@ use Rattle.psl.specs.Syntax.{until, abort, implies, formula-at}
 use Rattle.psl.specs.Letter.{Letter, satisfies}
 use Rattle.psl.specs.Word.{Word, mir, rest, seen, Place, Holds, from, or-bottom, front}
 use Rattle.psl.specs.Removal.{after-waiting, unclock}
-use Rattle.psl.specs.OptionalClock.{free, on, Ticks, Tick-under, Satisfies-under}
+use Rattle.psl.specs.OptionalClock.{free, on, Tick-under, Satisfies-under}
 use Rattle.psl.proofs.Bottomless.{ticking-place}
 use Rattle.psl.proofs.Decide.{decide}
-use Rattle.psl.proofs.FreeTicks.{free-strong, free-next, ticks-present, free-until}
 use Rattle.psl.proofs.Mirrors.{mir-twice, not-both, one-of, seen-mir-from}
-use Rattle.psl.proofs.Monotone.{ticks-holds}
 use Rattle.psl.proofs.Places.{place-first, first-of, rest-from, seen-mir, place-of-mir}
 use Rattle.psl.proofs.RemovalMatches.{conjoin, conjoin-left, conjoin-right, removal-matches}
 use Rattle.psl.proofs.Same.{iff-both, starts-same, weakly-same, negated-same, abort-same, implies-same}
 use Rattle.psl.proofs.Tests.{settle}
+use Rattle.psl.proofs.Ticks.{free-strong, free-next, ticks-present, free-until, ticks-holds}
 use Rattle.psl.proofs.Stretches.{letter-holds}
 
 -- ticks by places
@@ -44,7 +43,7 @@ tick-made : (c : Condition) (j : ℕ) (w : Word) → Holds (seen w j) c → ((i 
 tick-made c zero w h k = holds-letter (seen w zero) c h
 tick-made c (suc j) w h k = (holds-letter (seen w zero) (negation c) (k zero (omega arith)), tick-made c j (rest w) h (λ i q. k (suc i) (omega arith)))
 
--- "(not c)! U (c and b)!" likewise
+-- two conditions of one letter
 both-to : (c b : Condition) (x : Option Letter) → Holds x c × Holds x b → Holds x (conjunction c b)
 both-to c b none h = h .0
 both-to c b (some l) h = conjoin l c b (h .0) (h .1)
@@ -74,12 +73,13 @@ from-tick c g w x =
     let h′ : Holds (seen (from w j) zero) c = free-strong c (from w j) .0 h in
     (j, tick-made c j w (rw (first-of j w) at h′) (λ i q. rw (first-of i w) at (free-strong (negation c) (from w i) .0 (k i q))), s)
 
+-- (not c)! U (c! and b!) is (not c)! U (c and b)!
 to-both : (c b : Condition) (w : Word) → Satisfies-under free (at-tick c (strong b)) w
-    → Satisfies-under free (until (strong (negation c)) (strong (conjunction c b))) w
+    → Satisfies-under free (after-waiting c (strong (conjunction c b))) w
 to-both c b w (j, t, (h, k), n) =
     (j, t, free-strong (conjunction c b) (from w j) .1 (both-to c b (seen (from w j) zero) (free-strong c (from w j) .0 h, free-strong b (from w j) .0 k)), n)
 
-from-both : (c b : Condition) (w : Word) → Satisfies-under free (until (strong (negation c)) (strong (conjunction c b))) w
+from-both : (c b : Condition) (w : Word) → Satisfies-under free (after-waiting c (strong (conjunction c b))) w
     → Satisfies-under free (at-tick c (strong b)) w
 from-both c b w (j, t, h, n) =
     let p = both-from c b (seen (from w j) zero) (free-strong (conjunction c b) (from w j) .0 h) in
@@ -87,15 +87,16 @@ from-both c b w (j, t, h, n) =
 
 -- a condition at the first tick
 strong-to : (c b : Condition) (w : Word) (j : ℕ) → Tick-under (on c) (front w (suc j)) → Holds (seen w j) b
-    → Satisfies-under free (until (strong (negation c)) (strong (conjunction c b))) w
+    → Satisfies-under free (after-waiting c (strong (conjunction c b))) w
 strong-to c b w j t h = to-both c b w (to-tick c (strong b) w j t (free-strong b (from w j) .1 (rw (first-of j w) h)))
 
-strong-from : (c b : Condition) (w : Word) → Satisfies-under free (until (strong (negation c)) (strong (conjunction c b))) w
+strong-from : (c b : Condition) (w : Word) → Satisfies-under free (after-waiting c (strong (conjunction c b))) w
     → (j : ℕ) × Tick-under (on c) (front w (suc j)) × Holds (seen w j) b
 strong-from c b w x =
     let (j, t, h) = from-tick c (strong b) w (from-both c b w x) in
     (j, t, rw (first-of j w) at (free-strong b (from w j) .0 h))
 
+-- X!
 next-to : (c : Condition) (g : Formula) (w : Word) (j k : ℕ) → Tick-under (on c) (front w (suc j)) → Tick-under (on c) (front (from w (suc j)) (suc k))
     → Satisfies-under free g (from (from w (suc j)) k)
     → Satisfies-under free (at-tick c (next (at-tick c g))) w
@@ -111,6 +112,7 @@ next-from c g w x =
     let (k, u, s) = from-tick c g (from w (suc j)) (subst⁻¹ (Satisfies-under free (at-tick c g)) (rest-from w j) (free-next (at-tick c g) (from w j) .0 y .1)) in
     (j, k, t, u, s)
 
+-- a weak condition, by the mirror
 weak-to : (c b : Condition) (w : Word) → Satisfies-under (on c) (weak b) w → Satisfies-under free (unclock c (weak b)) w
 weak-to c b w s x =
     let (j, t, h) = strong-from c (negation b) (mir w) x in
@@ -123,10 +125,7 @@ weak-from c b w n j p t =
       | inr h ↦ absurd (n (strong-to c (negation b) (mir w) j t (rw (seen-mir w j) h)))
     ]
 
-holds-ticks : (c : Condition) (x : Option Letter) → Holds x c → Ticks (on c) x
-holds-ticks c none h = h
-holds-ticks c (some l) h = h
-
+-- U
 until-to : (c : Condition) (f g f′ g′ : Formula) (w : Word) → ((x : Word) → Satisfies-under (on c) f x → Satisfies-under free f′ x)
     → ((x : Word) → Satisfies-under (on c) g x → Satisfies-under free g′ x)
     → Satisfies-under (on c) (until f g) w → Satisfies-under free (until (negated (conjoined (strong c) (negated f′))) (conjoined (strong c) g′)) w
@@ -134,9 +133,9 @@ until-to c f g f′ g′ w hf hg (k, h, s, b) =
     free-until (negated (conjoined (strong c) (negated f′))) (conjoined (strong c) g′) w .1 (
       k,
       ticks-present (on c) (seen w k) h,
-      (free-strong c (from w k) .1 (rw (first-of k w) (ticks-holds c (seen w k) h)), hg (from w k) s),
+      (free-strong c (from w k) .1 (rw (first-of k w) (ticks-holds c (seen w k) .0 h)), hg (from w k) s),
       λ j i (q, n). n (rw (mir-twice (from w j))
-          (hf (from w j) (b j i (holds-ticks c (seen (mir w) j) (rw (seen-mir-from j w) at (free-strong c (mir (from w j)) .0 q)))))),
+          (hf (from w j) (b j i (ticks-holds c (seen (mir w) j) .1 (rw (seen-mir-from j w) at (free-strong c (mir (from w j)) .0 q)))))),
     )
 
 until-from : (c : Condition) (f g f′ g′ : Formula) (w : Word) → ((x : Word) → Satisfies-under free f′ x → Satisfies-under (on c) f x)
@@ -145,11 +144,11 @@ until-from : (c : Condition) (f g f′ g′ : Formula) (w : Word) → ((x : Word
 until-from c f g f′ g′ w hf hg x =
     let (k, p, (h, s), b) = free-until (negated (conjoined (strong c) (negated f′))) (conjoined (strong c) g′) w .0 x in (
       k,
-      holds-ticks c (seen w k) (rw (first-of k w) at (free-strong c (from w k) .0 h)),
+      ticks-holds c (seen w k) .1 (rw (first-of k w) at (free-strong c (from w k) .0 h)),
       hg (from w k) s,
       λ j i q. settle (decide (on c) f (from w j))
           (λ n. b j i (
-            free-strong c (mir (from w j)) .1 (rw (seen-mir-from j w) (ticks-holds c (seen (mir w) j) q)),
+            free-strong c (mir (from w j)) .1 (rw (seen-mir-from j w) (ticks-holds c (seen (mir w) j) .0 q)),
             λ y. n
                 (hf (from w j) (rw (mir-twice (from w j)) at y)),
           )),

@@ -9,11 +9,11 @@ use Rattle.psl.specs.Letter.{Letter, satisfies}
 use Rattle.psl.specs.Word.{Word, from}
 use Rattle.psl.specs.Unclocked.{Unclocked-matches, Unclocked-satisfies}
 use Rattle.psl.specs.OptionalClock.{free, Matches-under, Satisfies-under, clock-free}
-use Rattle.psl.proofs.FreeTicks.{free-strong, free-weak, free-next, free-until}
 use Rattle.psl.proofs.Languages.{head-eq, tail-eq, nil-cons}
 use Rattle.psl.proofs.Same.{iff-sum, iff-both, Same, concat-same, fusion-same, star-same, starts-same, weakly-same, negated-same, abort-same}
 use Rattle.psl.proofs.Same.{implies-same}
 use Rattle.psl.proofs.Tests.{and-out, iff-trans, iff-sym}
+use Rattle.psl.proofs.Ticks.{free-strong, free-weak, free-next, free-until}
 
 -- the same sequence with nothing, which no list matches, where it has r@d
 abbrev pub erase-sequence : Sequence → Sequence

@@ -1,4 +1,4 @@
--- Free of a clock each letter by itself is a tick.
+-- Where ticks end: under a clock at the letters that satisfy it, free of one at every letter.
 use mathlib.Core.Option.{Option, none, some}
 use mathlib.Core.Logic.{_⊎_, inl, inr, _↔_}
 use Prim.Native.Nat.{ℕ, zero, suc, _<_}
@@ -6,7 +6,7 @@ use native.Mathlib.Omega.{arith}
 use Rattle.psl.specs.Syntax.{Condition, Formula, strong, weak, next, until}
 use Rattle.psl.specs.Letter.{Letter}
 use Rattle.psl.specs.Word.{Word, mir, seen, Present, Place, Holds, from}
-use Rattle.psl.specs.OptionalClock.{Clock, free, Ticks, Satisfies-under}
+use Rattle.psl.specs.OptionalClock.{Clock, free, on, Ticks, Satisfies-under}
 use Rattle.psl.proofs.Places.{place?, place-below, place-in-mir}
 
 -- hold! without a clock
@@ -49,3 +49,7 @@ free-until f g w = (
       (k, p, s, λ j i. b j i (present-ticks (seen (mir w) j) (place-in-mir w j (place-below j k w (omega arith) p))))),
   (λ (k, p, s, b). (k, present-ticks (seen w k) p, s, λ j i t. b j i)),
 )
+
+pub ticks-holds : (c : Condition) (x : Option Letter) → Ticks (on c) x ↔ Holds x c
+ticks-holds c none = (λ h. h, λ h. h)
+ticks-holds c (some l) = (λ h. h, λ h. h)

@@ -19,7 +19,7 @@ pub from-bare : (t : Tail) (k : ℕ) → from (with-tail [] t) k ≡ with-tail [
 from-bare t zero = refl
 from-bare t (suc k) = from-bare t k
 
--- sequences
+-- prefixes and suffixes
 pub front-take : (v : List Letter) (t : Tail) (j : ℕ) → j ≤ length v → front (with-tail v t) j ≡ take j v
 front-take v t zero h = refl
 front-take [] t (suc j) h = absurd (omega arith)

@@ -1,37 +1,40 @@
 -- The meaning is decidable, under a clock and free of one, on words of each shape.
+use mathlib.Core.Bool.{Bool, _&&_}
 use mathlib.Core.List.{List, [], _∷_, _++_}
 use mathlib.Core.Option.{Option, none, some}
 use mathlib.Core.Path.{_≡_, refl, sym, _∙_, subst, subst⁻¹}
+use mathlib.Core.Logic.{_↔_}
 use Prim.Native.Nat.{ℕ, zero, suc, _≤_, _<_}
 use native.Mathlib.Nat.{not-suc-le-zero, le-of-suc-le-suc}
 use native.Mathlib.Omega.{arith}
+use lib.Dec.{T}
 use lib.ListN.{length, take, length-map}
 use Rattle.psl.specs.Syntax.{Condition, Sequence, Formula, strong, weak, strong-sequence, weak-sequence, negated, conjoined, next, until, abort}
 use Rattle.psl.specs.Syntax.{implies, formula-at}
 use Rattle.psl.specs.Letter.{Letter, mirror}
 use Rattle.psl.specs.Word.{Tail, end, tops, bottoms, Word, with-tail, with-tops, mir, seen, Place, Holds, from, front}
-use Rattle.psl.specs.Automaton.{states, accepts, run-of-tops}
+use Rattle.psl.specs.Automaton.{states, State, final, step, any, accepts, Completes, run-of-tops}
 use Rattle.psl.specs.Evaluation.{is-tops}
 use Rattle.psl.specs.OptionalClock.{Clock, on, ticks, waits, Ticks, Tick-under, Matches-under, Starts-under, Satisfies-under}
 use Rattle.psl.specs.Order.{topped}
-use Rattle.psl.proofs.Accept.{accepts-right}
+use Rattle.psl.proofs.Accept.{any-in, any-out, accepts-right, completes-right}
 use Rattle.psl.proofs.Alike.{Alike, alike-satisfies}
 use Rattle.psl.proofs.Beyond.{from-past, seen-past}
-use Rattle.psl.proofs.Enough.{tops-after}
+use Rattle.psl.proofs.Enough.{tops-enough, tops-after}
 use Rattle.psl.proofs.Longest.{weak-longest}
 use Rattle.psl.proofs.Places.{holds-present, place?, holds?, place-below, place-first, first-of}
 use Rattle.psl.proofs.Reach.{Reach, reach-parts, Breaks, implies-unbroken}
-use Rattle.psl.proofs.Tests.{dec-T, dec-iff, dec-and, dec-or, dec-imp, dec-not, dec-some-below, dec-all-below, dec-some, dec-all}
+use Rattle.psl.proofs.Tests.{and-in, and-out, dec-T, dec-iff, dec-and, dec-or, dec-imp, dec-not, dec-some-below, dec-all-below, dec-some, dec-all}
 
 pub matches? : (k : Clock) (r : Sequence) (v : List Letter) → Dec (Matches-under k r v)
 matches? k r v = dec-iff (accepts-right k r v) (dec-T (accepts k r v))
 
+-- some number, if then one below n
+bounded? : (n : ℕ) (P : ℕ → Type 0) → ((j : ℕ) → Dec (P j)) → (((j : ℕ) × P j) → (j : ℕ) × (j < n) × P j) → Dec ((j : ℕ) × P j)
+bounded? n P d f = dec-iff (f, λ (j, h, x). (j, x)) (dec-some-below n P d)
+
 beyond? : (k : Clock) (r : Sequence) (v : List Letter) → Dec ((m : ℕ) × Matches-under k r (v ++ run-of-tops (suc m)))
-beyond? k r v = go (dec-some-below (states k r) (λ m. Matches-under k r (v ++ run-of-tops (suc m))) (λ m. matches? k r (v ++ run-of-tops (suc m))))
-  where
-    go : Dec ((m : ℕ) × (m < states k r) × Matches-under k r (v ++ run-of-tops (suc m))) → Dec ((m : ℕ) × Matches-under k r (v ++ run-of-tops (suc m)))
-    go (yes (m, h, x)) = yes (m, x)
-    go (no n) = no (λ x. n (tops-after k r v x))
+beyond? k r v = bounded? (states k r) (λ m. Matches-under k r (v ++ run-of-tops (suc m))) (λ m. matches? k r (v ++ run-of-tops (suc m))) (tops-after k r v)
 
 reach? : (k : Clock) (r : Sequence) (S : Word → Type 0) → ((x : Word) → Dec (S x)) → (w : Word) → Dec (Reach k r S w)
 reach? k r S d w =
@@ -53,6 +56,30 @@ tick? : (k : Clock) (v : List Letter) → Dec (Tick-under k v)
 tick? k [] = no (λ x. x)
 tick? k (l ∷ []) = dec-T (ticks k l)
 tick? k (l ∷ (m ∷ v)) = dec-and (dec-T (waits k l)) (tick? k (m ∷ v))
+
+-- from a state
+abbrev completes-test : (k : Clock) (r : Sequence) → List Letter → State k r → Bool
+completes-test k r [] p = final k r p
+completes-test k r (l ∷ v) p = any k r (λ q. step k r l p q && completes-test k r v q)
+
+completes-tested : (k : Clock) (r : Sequence) (v : List Letter) (p : State k r) → Completes k r p v ↔ T (completes-test k r v p)
+completes-tested k r [] p = (λ x. x, λ x. x)
+completes-tested k r (l ∷ v) p = (
+  (λ (q, s, y).
+      any-in k r (λ q. step k r l p q && completes-test k r v q) q (and-in (step k r l p q) (completes-test k r v q) s (completes-tested k r v q .0 y))),
+  (λ x.
+      let (q, y) = any-out k r (λ q. step k r l p q && completes-test k r v q) x in
+      let (s, z) = and-out (step k r l p q) (completes-test k r v q) y in
+      (q, s, completes-tested k r v q .1 z)),
+)
+
+pub tops? : (k : Clock) (r : Sequence) (p : State k r) → Dec ((n : ℕ) × Completes k r p (run-of-tops (suc n)))
+tops? k r p =
+    bounded? (states k r) (λ n. Completes k r p (run-of-tops (suc n)))
+    (λ n. dec-iff (completes-tested k r (run-of-tops (suc n)) p) (dec-T (completes-test k r (run-of-tops (suc n)) p)))
+    (λ (n, x).
+    let (m, h, y) = tops-enough k r p (n, completes-right k r p (run-of-tops (suc n)) .1 x) in
+    (m, h, completes-right k r p (run-of-tops (suc m)) .0 y))
 
 -- past its letters a word stays as it is
 from-same : (w : Word) (n j : ℕ) → length (w .letters) ≤ n → n ≤ j → from w j ≡ from w n

@@ -1,6 +1,6 @@
 -- Every formula under a clock is fit for the program, and free of a clock the tame ones are, images of clock removal among them.
 use mathlib.Core.List.{List}
-use mathlib.Core.Path.{sym, subst}
+use mathlib.Core.Path.{_≡_, sym, subst}
 use mathlib.Core.Logic.{_↔_}
 use lib.Dec.{T}
 use Rattle.psl.specs.Syntax.{Condition, Formula, strong, weak, strong-sequence, weak-sequence, negated, conjoined, next, until, abort, implies}
@@ -16,10 +16,10 @@ use Rattle.psl.specs.OptionalClock.{free, on}
 use Rattle.psl.proofs.ClockedMeaning.{clock-satisfies}
 use Rattle.psl.proofs.Evaluate.{Fit, eval-right}
 use Rattle.psl.proofs.FirstPlace.{Aborts, clock-aborts}
-use Rattle.psl.proofs.Images.{tame-satisfies}
+use Rattle.psl.proofs.Images.{image-tame, tame-satisfies}
 use Rattle.psl.proofs.Live.{clock-stretches, ticked-stretches}
 use Rattle.psl.proofs.RemovalFormulas.{clock-removal}
-use Rattle.psl.proofs.Tests.{iff-trans, iff-sym}
+use Rattle.psl.proofs.Tests.{same-test, iff-trans, iff-sym}
 
 pub clock-fit : (c : Condition) (f : Formula) → Fit (on c) f
 clock-fit c (strong b) = tt
@@ -58,3 +58,11 @@ clocked-judged c f t v = iff-trans (clock-satisfies c f (with-tail v t)) (eval-r
 
 pub tame-judged : (f : Formula) → Tame f → (t : Tail) (v : List Letter) → Unclocked-satisfies f (with-tail v t) ↔ T (eval free f t v)
 tame-judged f a t v = iff-trans (tame-satisfies f a (with-tail v t)) (eval-right free f (tame-fit f a) t v)
+
+-- a form is judged free of a clock as its source is under one
+pub image-judged : (c : Condition) (f : Formula) (t : Tail) (v : List Letter) → eval (on c) f t v ≡ eval free (unclock c f) t v
+image-judged c f t v =
+    let image = unclock c f in
+    let e = iff-trans (clock-removal c f (with-tail v t)) (eval-right free image (tame-fit image (image-tame c f)) t v) in
+    let d = eval-right (on c) f (clock-fit c f) t v in
+    same-test (eval (on c) f t v) (eval free image t v) (λ x. e .0 (d .1 x)) (λ x. d .0 (e .1 x))

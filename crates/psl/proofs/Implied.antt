@@ -21,7 +21,7 @@ use Rattle.psl.specs.Theorems.{Abort-by-first-place, Weak-by-longest-prefix, w
 use Rattle.psl.specs.Theorems.{Tops-decided, Tops-enough, Meanings-decidable, Clock-removal}
 use Rattle.psl.proofs.Accept.{Rest, accepts-right, completes-right}
 use Rattle.psl.proofs.ClockedMeaning.{clock-matches, clock-satisfies}
-use Rattle.psl.proofs.Decide.{matches?, decide}
+use Rattle.psl.proofs.Decide.{matches?, tops?, decide}
 use Rattle.psl.proofs.Enough.{tops-enough, tops-after}
 use Rattle.psl.proofs.FirstPlace.{abort-none, clock-aborts}
 use Rattle.psl.proofs.Images.{image-ticked, ticked-clock-free, image-tame, tame-satisfies, clock-free-matches, image-size}
@@ -99,6 +99,7 @@ tops-decided = record {
   ticked-list = λ r t v.
       iff-trans (iff-some (λ n. clock-free-matches r (ticked-clock-free r t) (v ++ run-of-tops (suc n)))) (extends-right free r (ticked-stretches r t) v);
   image-ticked = image-ticked;
+  each-state = tops?;
 }
 
 -- some n in bounds, for equal sets

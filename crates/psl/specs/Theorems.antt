@@ -93,6 +93,8 @@ pub record Tops-decided : Type 0 where
   pub ticked-state : (r : Sequence) → T (ticked r) → (p : State free r) → ((n : ℕ) × Completes free r p (run-of-tops (suc n))) ↔ T (live free r p)
   pub ticked-list : (r : Sequence) → T (ticked r) → (v : List Letter) → ((n : ℕ) × Unclocked-matches r (v ++ run-of-tops (suc n))) ↔ T (extends free r v)
   pub image-ticked : (c : Condition) (r : Sequence) → T (ticked (unclock-sequence c r))
+  -- in every sequence, by trying at most as many tops as there are states
+  pub each-state : (k : Clock) (r : Sequence) (p : State k r) → Dec ((n : ℕ) × Completes k r p (run-of-tops (suc n)))
 
 -- what one or more tops complete, from a state or after a list, at most as many tops as there are states complete
 pub record Tops-enough : Type 0 where

@@ -7,9 +7,10 @@ use native.Mathlib.Nat.{zero-add, suc-add, not-suc-le-zero, le-of-suc-le-suc}
 use native.Mathlib.Omega.{arith}
 use lib.ListN.{length, getD}
 use Rattle.psl.specs.Syntax.{Condition}
-use Rattle.psl.specs.Letter.{Letter, bottom, mirror}
+use Rattle.psl.specs.Letter.{Letter, bottom, mirror, satisfies}
 use Rattle.psl.specs.Word.{Tail, end, tops, bottoms, Word, with-tail, mirror-tail, mir, head, behead, rest, seen, Present, Place, Holds, from, or-bottom, front}
 use Rattle.psl.proofs.Refuted.{no-place}
+use Rattle.psl.proofs.Tests.{dec-T}
 
 -- a letter that satisfies something is there
 pub holds-present : (x : Option Letter) (b : Condition) → Holds x b → Present x
@@ -19,6 +20,14 @@ holds-present (some l) b h = tt
 present-some : (x : Option Letter) → Present x → x ≡ some (or-bottom x)
 present-some none p = absurd p
 present-some (some l) p = refl
+
+pub place? : (x : Option Letter) → Dec (Present x)
+place? none = no (λ p. p)
+place? (some l) = yes tt
+
+pub holds? : (x : Option Letter) (b : Condition) → Dec (Holds x b)
+holds? none b = no (λ h. h)
+holds? (some l) b = dec-T (satisfies l b)
 
 -- places run from 0 without a gap
 first-place : (j : ℕ) (v : List Letter) (t : Tail) → Place (with-tail v t) j → Place (with-tail v t) zero
@@ -33,7 +42,18 @@ place-below zero j w h p = first-place j (w .letters) (w .tail) p
 place-below (suc i) zero w h p = absurd (not-suc-le-zero h)
 place-below (suc i) (suc j) w h p = place-below i j (rest w) (le-of-suc-le-suc h) p
 
+pub place-first : (j : ℕ) (w : Word) → Place w j → Place w zero
+place-first j w p = place-below zero j w (omega arith) p
+
 -- suffixes
+pub first-of : (i : ℕ) (w : Word) → seen (from w i) zero ≡ seen w i
+first-of zero w = refl
+first-of (suc i) w = first-of i (rest w)
+
+pub rest-from : (w : Word) (j : ℕ) → from w (suc j) ≡ rest (from w j)
+rest-from w zero = refl
+rest-from w (suc j) = rest-from (rest w) j
+
 pub from-from : (i j : ℕ) (w : Word) → from (from w i) j ≡ from w (i + j)
 from-from zero j w = rw (zero-add j)
 from-from (suc i) j w = rw (suc-add i j) (from-from i j (rest w))

@@ -55,7 +55,7 @@ pub tick : (c : Condition) (v : List Letter) → Tick c v ↔ Literal-tick c v
 tick c v = (tick-to c v, λ (u, l, e, h, f). subst (Tick c) (sym e) (tick-made c u l h f))
 
 -- the last letter of a tick stands there, since bottom satisfies nothing
-letter-holds : (x : Option Letter) (c : Condition) → T (satisfies (or-bottom x) c) → Holds x c
+pub letter-holds : (x : Option Letter) (c : Condition) → T (satisfies (or-bottom x) c) → Holds x c
 letter-holds none c h = h
 letter-holds (some l) c h = h
 

@@ -8,3 +8,13 @@ pub mod Removal
 pub mod Verdict
 pub mod Cases
 pub mod Literal
+pub mod Automaton
+pub mod OptionalClock
+pub mod Order
+pub mod Theorems
+pub mod Images
+pub mod Evaluation
+pub mod Numbered
+pub mod Named
+pub mod Pairwise
+pub mod Limits

@@ -79,6 +79,7 @@ module _ (p : Property) where
           ; is = sequence-as (same ∙ sym (image-is e told)) (new .is)
           ; count-c = omega (arith, new .count-c, zero-c, ap sequence-adds-conditions (told .is))
           ; count-s = omega (arith, new .count-s, one-s, ap sequence-adds-sequences (told .is))
+          ; count-f = new .count-f
           }
 
     -- an operand, where it was placed

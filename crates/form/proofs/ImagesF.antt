@@ -22,7 +22,8 @@ use Rattle.form.specs.Entries.{Formula-at}
 use Rattle.form.specs.declared.draft.Draft as code
 use Rattle.form.specs.Draft.{conditions-in, sequences-in, formulas-in, Formula-is, Added-formula, Built, formula-in, Grows, Sound}
 use Rattle.form.specs.Image.{sequence-image, Sequence-placed}
-use Rattle.form.specs.ImageF.{formula-image, For-parts, Formula-placed, formula-adds-conditions, formula-adds-formulas, Wrote-formula}
+use Rattle.form.specs.ImageF.{formula-image, For-parts, Formula-placed, Wrote-formula}
+use Rattle.form.specs.Pairs.{formula-adds-conditions, formula-adds-formulas}
 use Rattle.form.proofs.Grown.{formula-as}
 
 module _ (p : Property) where

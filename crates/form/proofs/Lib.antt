@@ -1,8 +1,10 @@
 pub mod Held
 pub mod Grown
+pub mod Totals
 pub mod Images
 pub mod Steps
 pub mod Marking
 pub mod ImagesF
 pub mod StepsF
 pub mod MarkingF
+pub mod Meeting

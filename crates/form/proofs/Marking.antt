@@ -1,10 +1,11 @@
 -- One more pair whose operands are marked.
-use mathlib.Core.Bool.{Bool, true, false, _&&_}
+use mathlib.Core.Bool.{Bool, true, false, _&&_, cond}
 use mathlib.Core.List.{List}
 use mathlib.Core.Logic.{_⊎_, inl, inr, ⊎-elim, _≢_}
 use mathlib.Core.Path.{_≡_, refl, sym, _∙_, ap, ap₂, subst}
-use Prim.Native.Nat.{ℕ, _+_, _*_, _/_, _%_, _≤_, _<_}
+use Prim.Native.Nat.{ℕ, zero, suc, _+_, _*_, _/_, _%_, _≤_, _<_}
 use native.Mathlib.Omega.{arith}
+use native.Mathlib.Numerals.{add-one}
 use lib.Dec.{ltb}
 use lib.ListN.{length, getD, set, length-set}
 use lib.Seq.{getD-set-same, getD-set-other}
@@ -17,7 +18,7 @@ use Rattle.property.specs.Place.{conditions-of, sequences-of}
 use Rattle.form.proofs.Held.{held-sequence}
 use Rattle.form.specs.Pairs.{key}
 use Rattle.form.specs.Image.{For-operands, Marked, Sequences-closed}
-use Rattle.form.specs.Marks.{with-operands, Within, Clocks, Least-sequences}
+use Rattle.form.specs.Met.{with-operands, meet-sequences, Within, Clocks}
 use Rattle.form.proofs.Steps.{for-operands, whole, inside, clock-small, entry-of, clock-of}
 
 -- a mark that is put
@@ -35,19 +36,19 @@ key-fits : (met : List Bool) (i a c : ℕ) → length met ≡ 4096 → i ≤ 63 
 key-fits met i a c long small h l = omega arith
 
 -- what is known of marks after the operands of entry i under c were marked
-pub record Marks (e : entryS.Sequence) (i c : ℕ) (met new : List Bool) : Type 1 where
+pub record Put (e : entryS.Sequence) (i c : ℕ) (met new : List Bool) : Type 1 where
   pub long : length new ≡ length met
   pub kept : (k : ℕ) → getD met k false ≡ true → getD new k false ≡ true
   pub done : For-operands (Marked new) e c
   pub upper : (k : ℕ) → 64 * i ≤ k → getD new k false ≡ true → getD met k false ≡ true
   pub only : (Q : ℕ → ℕ → Type 0) → For-operands Q e c → (k : ℕ) → getD new k false ≡ true → (getD met k false ≡ true) ⊎ ((a : ℕ) × (b : ℕ) × (b < 64) × (k ≡ key a b) × Q a b)
 
-none : (e : entryS.Sequence) (i c : ℕ) (met : List Bool) → For-operands (Marked met) e c → Marks e i c met met
+none : (e : entryS.Sequence) (i c : ℕ) (met : List Bool) → For-operands (Marked met) e c → Put e i c met met
 none e i c met f = record { long = refl; kept = λ k m. m; done = f; upper = λ k h m. m; only = λ Q f k m. inl m }
 
 one : (e : entryS.Sequence) (i c : ℕ) (met : List Bool) (a b : ℕ) → a < i → b < 64 → key a b < length met
     → (Marked (set met (key a b) true) a b → For-operands (Marked (set met (key a b) true)) e c)
-    → ((Q : ℕ → ℕ → Type 0) → For-operands Q e c → Q a b) → Marks e i c met (set met (key a b) true)
+    → ((Q : ℕ → ℕ → Type 0) → For-operands Q e c → Q a b) → Put e i c met (set met (key a b) true)
 one e i c met a b l m h f g =
     record
     { long = length-set met (key a b) true
@@ -59,7 +60,7 @@ one e i c met a b l m h f g =
 
 two : (e : entryS.Sequence) (i c : ℕ) (met : List Bool) (a b : ℕ) → a < i → b < i → c < 64 → key a c < length met → key b c < length met
     → ((P : ℕ → ℕ → Type 0) → P a c → P b c → For-operands P e c) → ((Q : ℕ → ℕ → Type 0) → For-operands Q e c → Q a c × Q b c)
-    → Marks e i c met (set (set met (key a c) true) (key b c) true)
+    → Put e i c met (set (set met (key a c) true) (key b c) true)
 two e i c met a b la lb m ha hb f g =
     let long : length (set met (key a c) true) ≡ length met = length-set met (key a c) true in
     let hb′ : key b c < length (set met (key a c) true) = omega arith in
@@ -75,7 +76,7 @@ two e i c met a b la lb m ha hb f g =
         (λ y. ⊎-elim (λ is. inr (a, c, m, is, g Q q .0)) (λ w. inl w) (put-only met (key a c) k ha y)) (put-only _ (key b c) k hb′ x)
     }
 
-pub marked : (n i c : ℕ) (e : entryS.Sequence) (met : List Bool) → n ≤ 64 → i ≤ 63 → c < 64 → length met ≡ 4096 → sequence-names n i e ≡ true → Marks e i c met (with-operands e c met)
+pub marked : (n i c : ℕ) (e : entryS.Sequence) (met : List Bool) → n ≤ 64 → i ≤ 63 → c < 64 → length met ≡ 4096 → sequence-names n i e ≡ true → Put e i c met (with-operands e c met)
 marked n i c (s.Condition a) met few small l long names = none (s.Condition a) i c met tt
 marked n i c (s.Concat a b) met few small l long names =
     let h = and-parts (ltb a i) (ltb b i) names in
@@ -169,16 +170,46 @@ module _ (p : Property) (few : length (conditions-of p) ≤ 64) (few-s : length 
     clock : k % 64 < length (conditions-of p)
     clock = inv .1 (k / 64) (k % 64) (clock-small k) here
 
-    new : Marks (entry p (k / 64)) (k / 64) (k % 64) met (with-operands (entry p (k / 64)) (k % 64) met)
+    new : Put (entry p (k / 64)) (k / 64) (k % 64) met (with-operands (entry p (k / 64)) (k % 64) met)
     new = marked (length (conditions-of p)) (k / 64) (k % 64) (entry p (k / 64)) met few (omega arith) (clock-small k) (inv .4) names
 
     spread : (i c : ℕ) → c < 64 → i < length (sequences-of p) → For-operands (Marked met) (entry p i) c → For-operands (Marked (with-operands (entry p (k / 64)) (k % 64) met)) (entry p i) c
     spread i c l at x =
         for-operands (Marked met) (Marked (with-operands (entry p (k / 64)) (k % 64) met)) (length (conditions-of p)) i c (entry p i) few l (held-sequence p i at .names) (λ a b _ _ y. new .kept (key a b) y) x
 
+-- before the first key
 pub start : (p : Property) (seed : List Bool) → Clocks p seed → length seed ≡ 4096 → Inv p seed seed (64 * length (sequences-of p))
 start p seed clocks long = ((λ i c l m. m), clocks, (λ i c there l u m. let z : ⊥ = omega arith in absurd z), (λ other closed in-seed. in-seed), long)
 
-pub finish : (p : Property) (seed met : List Bool) → Inv p seed met 0 → Least-sequences p seed met
-finish p seed met inv =
-    record { holds = inv .0; closed = λ i c there l m. (inv .1 i c l m, inv .2 i c there l (omega arith) m); least = inv .3 }
+-- by going down over one key
+pub meets-one : {M : Type 0} (b : Bool) (P Q : M → Type 0) (x y : M) → ((z : M) → P z → Q z) → (b ≡ true → P x) → (b ≡ false → P y) → Q (cond b x y)
+meets-one true P Q x y down yes-case no-case = down x (yes-case refl)
+meets-one false P Q x y down yes-case no-case = down y (no-case refl)
+
+-- by going down over all keys below k
+pub meets : (p : Property) → length (conditions-of p) ≤ 64 → length (sequences-of p) ≤ 64 → (seed : List Bool) (k : ℕ) → k ≤ 64 * length (sequences-of p)
+    → (met : List Bool) → Inv p seed met k → Inv p seed (meet-sequences (sequences-of p) k met) 0
+unfolding meet-sequences
+meets p few few-s seed zero h met inv = inv
+meets p few few-s seed (suc k) h met inv =
+    let low : k < 64 * length (sequences-of p) = omega arith in
+    let here : Inv p seed met (k + 1) = subst (Inv p seed met) (sym (add-one k)) inv in
+    meets-one (getD met k false) (λ z. Inv p seed z k) (λ z. Inv p seed (meet-sequences (sequences-of p) k z) 0) _ met
+    (meets p few few-s seed k (omega arith))
+    (step-yes p few few-s seed met k low here) (step-no p few few-s seed met k low here)
+
+-- one key further down, marked or not
+pub meet-yes : (rs : List entryS.Sequence) (k : ℕ) (met : List Bool) → getD met k false ≡ true
+    → meet-sequences rs (k + 1) met ≡ meet-sequences rs k (with-operands (getD rs (k / 64) (s.Condition 0)) (k % 64) met)
+unfolding meet-sequences
+meet-yes rs k met e =
+    ap (λ j. meet-sequences rs j met) (add-one k) ∙ ap (λ b. meet-sequences rs k (cond b (with-operands (getD rs (k / 64) (s.Condition 0)) (k % 64) met) met)) e
+
+pub meet-no : (rs : List entryS.Sequence) (k : ℕ) (met : List Bool) → getD met k false ≡ false → meet-sequences rs (k + 1) met ≡ meet-sequences rs k met
+unfolding meet-sequences
+meet-no rs k met e =
+    ap (λ j. meet-sequences rs j met) (add-one k) ∙ ap (λ b. meet-sequences rs k (cond b (with-operands (getD rs (k / 64) (s.Condition 0)) (k % 64) met) met)) e
+
+pub meet-all : (rs : List entryS.Sequence) (k : ℕ) (met : List Bool) → k ≡ 0 → met ≡ meet-sequences rs k met
+unfolding meet-sequences
+meet-all rs k met e = ap (λ j. meet-sequences rs j met) (sym e)

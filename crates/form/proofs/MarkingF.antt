@@ -1,10 +1,11 @@
 -- One more pair whose parts are marked.
-use mathlib.Core.Bool.{Bool, true, false, _&&_}
+use mathlib.Core.Bool.{Bool, true, false, _&&_, cond}
 use mathlib.Core.List.{List}
 use mathlib.Core.Logic.{_⊎_, inl, inr, ⊎-elim, _≢_}
 use mathlib.Core.Path.{_≡_, refl, sym, _∙_, ap, ap₂, subst}
-use Prim.Native.Nat.{ℕ, _+_, _*_, _/_, _%_, _≤_, _<_}
+use Prim.Native.Nat.{ℕ, zero, suc, _+_, _*_, _/_, _%_, _≤_, _<_}
 use native.Mathlib.Omega.{arith}
+use native.Mathlib.Numerals.{add-one}
 use lib.Dec.{ltb}
 use lib.ListN.{length, getD, set, length-set}
 use Rattle.std.proofs.shelf.Tests.{ltb-true, and-parts, cases-lt, both-ways}
@@ -17,28 +18,28 @@ use Rattle.form.proofs.Held.{held-formula}
 use Rattle.form.specs.Pairs.{key}
 use Rattle.form.specs.Image.{Marked}
 use Rattle.form.specs.ImageF.{For-parts, Formulas-closed}
-use Rattle.form.specs.Marks.{Within, Clocks}
-use Rattle.form.specs.MarksF.{with-formulas, with-sequences, Least-formulas}
+use Rattle.form.specs.Met as marks
+use Rattle.form.specs.Met.{with-formulas, with-sequences, with-parts, meet-formulas, Within, Clocks}
 use Rattle.form.proofs.Steps.{whole, inside, clock-small, entry-of, clock-of}
 use Rattle.form.proofs.StepsF.{for-parts}
-use Rattle.form.proofs.Marking.{put-same, put-keeps, put-only}
+use Rattle.form.proofs.Marking.{put-same, put-keeps, put-only, meets-one}
 
 abbrev None : ℕ → ℕ → Type 0
 None a b = Unit {0}
 
 -- what is known of marks after those that G speaks of were put, all below key top
-pub record Marks (G : (ℕ → ℕ → Type 0) → Type 0) (top : ℕ) (met new : List Bool) : Type 1 where
+pub record Put (G : (ℕ → ℕ → Type 0) → Type 0) (top : ℕ) (met new : List Bool) : Type 1 where
   pub long : length new ≡ length met
   pub kept : (k : ℕ) → getD met k false ≡ true → getD new k false ≡ true
   pub done : G (Marked new)
   pub upper : (k : ℕ) → top ≤ k → getD new k false ≡ true → getD met k false ≡ true
   pub only : (Q : ℕ → ℕ → Type 0) → G Q → (k : ℕ) → getD new k false ≡ true → (getD met k false ≡ true) ⊎ ((a : ℕ) × (b : ℕ) × (b < 64) × (k ≡ key a b) × Q a b)
 
-none : (G : (ℕ → ℕ → Type 0) → Type 0) (top : ℕ) (met : List Bool) → G (Marked met) → Marks G top met met
+none : (G : (ℕ → ℕ → Type 0) → Type 0) (top : ℕ) (met : List Bool) → G (Marked met) → Put G top met met
 none G top met x = record { long = refl; kept = λ k m. m; done = x; upper = λ k h m. m; only = λ Q q k m. inl m }
 
 one : (G : (ℕ → ℕ → Type 0) → Type 0) (top : ℕ) (met : List Bool) (a b : ℕ) → key a b < top → b < 64 → key a b < length met
-    → ((P : ℕ → ℕ → Type 0) → P a b → G P) → ((Q : ℕ → ℕ → Type 0) → G Q → Q a b) → Marks G top met (set met (key a b) true)
+    → ((P : ℕ → ℕ → Type 0) → P a b → G P) → ((Q : ℕ → ℕ → Type 0) → G Q → Q a b) → Put G top met (set met (key a b) true)
 one G top met a b l m h x g =
     record
     { long = length-set met (key a b) true
@@ -50,7 +51,7 @@ one G top met a b l m h x g =
 
 two : (G : (ℕ → ℕ → Type 0) → Type 0) (top : ℕ) (met : List Bool) (a b c : ℕ) → key a c < top → key b c < top → c < 64 → key a c < length met → key b c < length met
     → ((P : ℕ → ℕ → Type 0) → P a c → P b c → G P) → ((Q : ℕ → ℕ → Type 0) → G Q → Q a c × Q b c)
-    → Marks G top met (set (set met (key a c) true) (key b c) true)
+    → Put G top met (set (set met (key a c) true) (key b c) true)
 two G top met a b c la lb m ha hb x g =
     let long : length (set met (key a c) true) ≡ length met = length-set met (key a c) true in
     let hb′ : key b c < length (set met (key a c) true) = omega arith in
@@ -77,16 +78,16 @@ module _ (n m i c : ℕ) (few : n ≤ 64) (few-m : m ≤ 64) (small : i ≤ 63) 
   fits-m met a b long q r = let h = ltb-true a m q in omega arith
 
   single : (G : (ℕ → ℕ → Type 0) → Type 0) (met : List Bool) (a b : ℕ) → length met ≡ 4096 → ltb a i ≡ true → b < 64
-      → ((P : ℕ → ℕ → Type 0) → P a b → G P) → ((Q : ℕ → ℕ → Type 0) → G Q → Q a b) → Marks G (64 * i) met (set met (key a b) true)
+      → ((P : ℕ → ℕ → Type 0) → P a b → G P) → ((Q : ℕ → ℕ → Type 0) → G Q → Q a b) → Put G (64 * i) met (set met (key a b) true)
   single G met a b long q r x g = one G (64 * i) met a b (low a b q r) r (fits met a b long q r) x g
 
   double : (G : (ℕ → ℕ → Type 0) → Type 0) (met : List Bool) (a b : ℕ) → length met ≡ 4096 → (ltb a i && ltb b i) ≡ true
-      → ((P : ℕ → ℕ → Type 0) → P a c → P b c → G P) → ((Q : ℕ → ℕ → Type 0) → G Q → Q a c × Q b c) → Marks G (64 * i) met (set (set met (key a c) true) (key b c) true)
+      → ((P : ℕ → ℕ → Type 0) → P a c → P b c → G P) → ((Q : ℕ → ℕ → Type 0) → G Q → Q a c × Q b c) → Put G (64 * i) met (set (set met (key a c) true) (key b c) true)
   double G met a b long q x g =
       let h = and-parts (ltb a i) (ltb b i) q in
       two G (64 * i) met a b c (low a c (h .0) l) (low b c (h .1) l) l (fits met a c long (h .0) l) (fits met b c long (h .1) l) x g
 
-  pub marked-f : (e : entryF.Formula) (met : List Bool) → length met ≡ 4096 → formula-names n m i e ≡ true → Marks (λ P. For-parts P None e c) (64 * i) met (with-formulas e c met)
+  pub marked-f : (e : entryF.Formula) (met : List Bool) → length met ≡ 4096 → formula-names n m i e ≡ true → Put (λ P. For-parts P None e c) (64 * i) met (with-formulas e c met)
   marked-f (f.Strong a) met long q = none _ (64 * i) met tt
   marked-f (f.Weak a) met long q = none _ (64 * i) met tt
   marked-f (f.StrongSequence a) met long q = none _ (64 * i) met tt
@@ -102,7 +103,7 @@ module _ (n m i c : ℕ) (few : n ≤ 64) (few-m : m ≤ 64) (small : i ≤ 63) 
       let r : d < 64 = omega (arith, ltb-true d n (h .1)) in
       single _ met a d long (h .0) r (λ P x. x) (λ Q x. x)
 
-  pub marked-s : (e : entryF.Formula) (met : List Bool) → length met ≡ 4096 → formula-names n m i e ≡ true → Marks (λ R. For-parts None R e c) 4096 met (with-sequences e c met)
+  pub marked-s : (e : entryF.Formula) (met : List Bool) → length met ≡ 4096 → formula-names n m i e ≡ true → Put (λ R. For-parts None R e c) 4096 met (with-sequences e c met)
   marked-s (f.Strong a) met long q = none _ 4096 met tt
   marked-s (f.Weak a) met long q = none _ 4096 met tt
   marked-s (f.StrongSequence a) met long q = let h = fits-m met a c long q l in one _ 4096 met a c (omega arith) l h (λ P x. x) (λ Q x. x)
@@ -194,10 +195,10 @@ module _ (p : Property) (few : length (conditions-of p) ≤ 64) (few-s : length 
     here : Marked fm (k / 64) (k % 64)
     here = ap (λ j. getD fm j false) (whole k) ∙ e
 
-    nf : Marks (λ P. For-parts P None (entry p (k / 64)) (k % 64)) (64 * (k / 64)) fm (with-formulas (entry p (k / 64)) (k % 64) fm)
+    nf : Put (λ P. For-parts P None (entry p (k / 64)) (k % 64)) (64 * (k / 64)) fm (with-formulas (entry p (k / 64)) (k % 64) fm)
     nf = marked-f (length (conditions-of p)) (length (sequences-of p)) (k / 64) (k % 64) few few-s (omega arith) (clock-small k) (entry p (k / 64)) fm (inv .6) names
 
-    ns : Marks (λ R. For-parts None R (entry p (k / 64)) (k % 64)) 4096 sm (with-sequences (entry p (k / 64)) (k % 64) sm)
+    ns : Put (λ R. For-parts None R (entry p (k / 64)) (k % 64)) 4096 sm (with-sequences (entry p (k / 64)) (k % 64) sm)
     ns = marked-s (length (conditions-of p)) (length (sequences-of p)) (k / 64) (k % 64) few few-s (omega arith) (clock-small k) (entry p (k / 64)) sm (inv .7) names
 
     Q : ℕ → ℕ → Type 0
@@ -224,3 +225,40 @@ module _ (p : Property) (few : length (conditions-of p) ≤ 64) (few-s : length 
     spread i c l at x =
         for-parts (Marked fm) (Marked (with-formulas (entry p (k / 64)) (k % 64) fm)) (Marked sm) (Marked (with-sequences (entry p (k / 64)) (k % 64) sm)) (length (conditions-of p)) (length (sequences-of p)) i c (entry p i) few l (held-formula p i at .names)
         (λ a b _ _ y. nf .kept (key a b) y) (λ a b _ _ y. ns .kept (key a b) y) x
+
+-- before the first key
+pub start : (p : Property) (fs ss : List Bool) → Clocks p fs → Clocks p ss → length fs ≡ 4096 → length ss ≡ 4096 → length (formulas-of p) ≤ 64
+    → ((i c : ℕ) → i < length (formulas-of p) → c < 64 → 64 * length (formulas-of p) ≤ key i c → ⊥) → Inv p fs ss fs ss (64 * length (formulas-of p))
+start p fs ss clocks-in-f clocks-in-s long-f long-s few above =
+    ( (λ i c l m. m), (λ i c l m. m), clocks-in-f, clocks-in-s, (λ i c there l u m. absurd (above i c there l u)), (λ fo so closed in-f in-s. (in-f, in-s)), long-f, long-s )
+
+abbrev pub At : Property → List Bool → List Bool → ℕ → marks.Marks → Type 0
+At p fs ss k m = Inv p fs ss (m .formulas) (m .sequences) k
+
+-- by going down over all keys below k
+pub meets : (p : Property) → length (conditions-of p) ≤ 64 → length (sequences-of p) ≤ 64 → length (formulas-of p) ≤ 64 → (fs ss : List Bool) (k : ℕ)
+    → k ≤ 64 * length (formulas-of p) → (m : marks.Marks) → At p fs ss k m → At p fs ss 0 (meet-formulas (formulas-of p) k m)
+unfolding meet-formulas
+meets p few few-s few-f fs ss zero h m inv = inv
+meets p few few-s few-f fs ss (suc k) h m inv =
+    let low : k < 64 * length (formulas-of p) = omega arith in
+    let here : At p fs ss (k + 1) m = subst (λ j. At p fs ss j m) (sym (add-one k)) inv in
+    meets-one (getD (m .formulas) k false) (At p fs ss k) (λ z. At p fs ss 0 (meet-formulas (formulas-of p) k z)) _ m
+    (meets p few few-s few-f fs ss k (omega arith))
+    (step-yes p few few-s few-f fs ss (m .formulas) (m .sequences) k low here) (step-no p few few-s few-f fs ss (m .formulas) (m .sequences) k low here)
+
+-- one key further down, marked or not
+pub meet-yes : (fs : List entryF.Formula) (k : ℕ) (m : marks.Marks) → getD (m .formulas) k false ≡ true
+    → meet-formulas fs (k + 1) m ≡ meet-formulas fs k (with-parts (getD fs (k / 64) (f.Strong 0)) (k % 64) m)
+unfolding meet-formulas
+meet-yes fs k m e =
+    ap (λ j. meet-formulas fs j m) (add-one k) ∙ ap (λ b. meet-formulas fs k (cond b (with-parts (getD fs (k / 64) (f.Strong 0)) (k % 64) m) m)) e
+
+pub meet-no : (fs : List entryF.Formula) (k : ℕ) (m : marks.Marks) → getD (m .formulas) k false ≡ false → meet-formulas fs (k + 1) m ≡ meet-formulas fs k m
+unfolding meet-formulas
+meet-no fs k m e =
+    ap (λ j. meet-formulas fs j m) (add-one k) ∙ ap (λ b. meet-formulas fs k (cond b (with-parts (getD fs (k / 64) (f.Strong 0)) (k % 64) m) m)) e
+
+pub meet-all : (fs : List entryF.Formula) (k : ℕ) (m : marks.Marks) → k ≡ 0 → m ≡ meet-formulas fs k m
+unfolding meet-formulas
+meet-all fs k m e = ap (λ j. meet-formulas fs j m) (sym e)

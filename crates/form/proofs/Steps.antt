@@ -1,6 +1,5 @@
 -- The pass over the pairs of sequences and clocks.
 use mathlib.Core.Bool.{Bool, true, false, _&&_} 
-use mathlib.Core.Bool.{cond}
 use mathlib.Core.List.{List, [], _∷_, _++_}
 use mathlib.Core.Logic.{_⊎_, inl, inr, ⊎-elim, _≢_}
 use mathlib.Core.Path.{_≡_, refl, sym, _∙_, ap, ap₂, subst}
@@ -20,16 +19,9 @@ use Rattle.form.proofs.Held.{held-sequence}
 use Rattle.form.specs.declared.draft.Draft as code
 use Rattle.form.specs.Draft.{Condition-is, Sequence-is, Grows, Sound}
 use Rattle.form.specs.Pairs.{key, sequence-adds-conditions, sequence-adds-sequences, total}
-use Rattle.form.specs.Image.{sequence-image, Carries, For-operands, Sequence-placed, Wrote-sequence, Marked, Sequences-closed, Sequences-written}
+use Rattle.form.specs.Image.{sequence-image, Carries, For-operands, Sequence-placed, Wrote-sequence, Marked, Sequences-closed, Sequences-written, Sequences-stand}
+use Rattle.form.proofs.Totals.{total-mono, total-yes, total-no}
 use Rattle.form.proofs.Grown.{keep-condition, keep-sequence, grows-twice}
-
-pub total-mono : (adds : entryS.Sequence → ℕ) (rs : List entryS.Sequence) (met : List Bool) (m n : ℕ) → m ≤ n → total adds rs met m ≤ total adds rs met n
-total-mono adds rs met m zero h = let e : m ≡ 0 = omega arith in subst (λ k. total adds rs met k ≤ 0) (sym e) (omega arith)
-total-mono adds rs met m (suc n) h =
-    ⊎-elim
-    (λ l. let ih = total-mono adds rs met m n (omega arith) in omega (arith, ih))
-    (λ l. let e : m ≡ suc n = omega arith in subst (λ k. total adds rs met k ≤ total adds rs met (suc n)) (sym e) (omega arith))
-    (cases-lt m (suc n))
 
 -- what holds of the operands' pairs, all lower
 pub for-operands : (P Q : ℕ → ℕ → Type 0) (n i c : ℕ) (e : entryS.Sequence) → n ≤ 64 → c < 64 → sequence-names n i e ≡ true
@@ -61,39 +53,25 @@ entry-of i c k l e = omega arith
 pub clock-of : (i c k : ℕ) → c < 64 → key i c ≡ k → c ≡ k % 64
 clock-of i c k l e = omega arith
 
-abbrev pub Inv : Property → List Bool → code.Draft → code.Draft → List ℕ → ℕ → Type 0
-Inv p met d₀ d places k =
-    Sound d × Grows d₀ d × Carries p d × Sequences-written p met d places k
-    × (d .counts .conditions ≡ d₀ .counts .conditions + total sequence-adds-conditions (sequences-of p) met k)
-    × (d .counts .sequences ≡ d₀ .counts .sequences + total sequence-adds-sequences (sequences-of p) met k)
-    × (length places ≡ 4096)
-
--- one more pair, marked or not
-total-yes : (adds : entryS.Sequence → ℕ) (rs : List entryS.Sequence) (met : List Bool) (k : ℕ) → getD met k false ≡ true → total adds rs met (k + 1) ≡ total adds rs met k + adds (getD rs (k / 64) (s.Condition 0))
-total-yes adds rs met k e = ap (total adds rs met) (add-one k) ∙ ap (λ b. total adds rs met k + cond b (adds (getD rs (k / 64) (s.Condition 0))) 0) e
-
-total-no : (adds : entryS.Sequence → ℕ) (rs : List entryS.Sequence) (met : List Bool) (k : ℕ) → getD met k false ≡ false → total adds rs met (k + 1) ≡ total adds rs met k
-total-no adds rs met k e = ap (total adds rs met) (add-one k) ∙ ap (λ b. total adds rs met k + cond b (adds (getD rs (k / 64) (s.Condition 0))) 0) e ∙ omega arith
-
-module _ (p : Property) (met : List Bool) (d₀ d : code.Draft) (places : List ℕ) (k : ℕ) (inv : Inv p met d₀ d places k) where
-  pub step-no : getD met k false ≡ false → Inv p met d₀ d places (k + 1)
+module _ (p : Property) (met : List Bool) (d₀ d : code.Draft) (places : List ℕ) (k : ℕ) (inv : Sequences-stand p met d₀ d places k) where
+  pub step-no : getD met k false ≡ false → Sequences-stand p met d₀ d places (k + 1)
   step-no e =
       ( inv .0, inv .1, inv .2
       , (λ i c l h m. ⊎-elim (λ h′. inv .3 i c l h′ m)
           (λ h′. let is : key i c ≡ k = omega arith in absurd (both-ways (getD met k false) e (ap (λ k. getD met k false) (sym is) ∙ m)))
           (cases-lt (key i c) k))
-      , inv .4 ∙ ap (λ x. d₀ .counts .conditions + x) (sym (total-no sequence-adds-conditions (sequences-of p) met k e))
-      , inv .5 ∙ ap (λ x. d₀ .counts .sequences + x) (sym (total-no sequence-adds-sequences (sequences-of p) met k e))
-      , inv .6 )
+      , inv .4 ∙ ap (λ x. d₀ .counts .conditions + x) (sym (total-no (s.Condition 0) sequence-adds-conditions (sequences-of p) met k e))
+      , inv .5 ∙ ap (λ x. d₀ .counts .sequences + x) (sym (total-no (s.Condition 0) sequence-adds-sequences (sequences-of p) met k e))
+      , inv .6, inv .7 )
 
-  pub step-yes : (d′ : code.Draft) (r : ℕ) → getD met k false ≡ true → k < 4096 → Wrote-sequence p (k / 64) (k % 64) d d′ r → Inv p met d₀ d′ (set places k r) (k + 1)
+  pub step-yes : (d′ : code.Draft) (r : ℕ) → getD met k false ≡ true → k < 4096 → Wrote-sequence p (k / 64) (k % 64) d d′ r → Sequences-stand p met d₀ d′ (set places k r) (k + 1)
   step-yes d′ r e few new =
       ( new .sound, grows-twice (inv .1) (new .grows)
       , (λ j h. keep-condition (new .grows) (inv .2 j h))
       , (λ i c l h m. ⊎-elim (λ h′. old i c h′ (inv .3 i c l h′ m)) (λ h′. let is : key i c ≡ k = omega arith in here i c l is) (cases-lt (key i c) k))
-      , (let q = total-yes sequence-adds-conditions (sequences-of p) met k e in omega (arith, q, new .count-c, inv .4))
-      , (let q = total-yes sequence-adds-sequences (sequences-of p) met k e in omega (arith, q, new .count-s, inv .5))
-      , length-set places k r ∙ inv .6 )
+      , (let q = total-yes (s.Condition 0) sequence-adds-conditions (sequences-of p) met k e in omega (arith, q, new .count-c, inv .4))
+      , (let q = total-yes (s.Condition 0) sequence-adds-sequences (sequences-of p) met k e in omega (arith, q, new .count-s, inv .5))
+      , length-set places k r ∙ inv .6, new .count-f ∙ inv .7 )
     where
     old : (i c : ℕ) → key i c < k → Sequence-placed p d places i c → Sequence-placed p d′ (set places k r) i c
     old i c h was =
@@ -122,11 +100,11 @@ module _ (p : Property) (met : List Bool) (d₀ d : code.Draft) (places : List �
     below : (a b : ℕ) → a < k / 64 → b < 64 → key a b < k
     below a b l m = omega arith
 
-  pub room-here : (n : ℕ) → k < n → getD met k false ≡ true → (d₀ .counts .conditions + total sequence-adds-conditions (sequences-of p) met n ≤ 256) × (d₀ .counts .sequences + total sequence-adds-sequences (sequences-of p) met n ≤ 256)
+  pub room-here : (n : ℕ) → k < n → getD met k false ≡ true → (d₀ .counts .conditions + total (s.Condition 0) sequence-adds-conditions (sequences-of p) met n ≤ 256) × (d₀ .counts .sequences + total (s.Condition 0) sequence-adds-sequences (sequences-of p) met n ≤ 256)
       → (d .counts .conditions + sequence-adds-conditions (getD (sequences-of p) (k / 64) (s.Condition 0)) ≤ 256) × (d .counts .sequences + sequence-adds-sequences (getD (sequences-of p) (k / 64) (s.Condition 0)) ≤ 256)
   room-here n h e room =
-      let c = total-yes sequence-adds-conditions (sequences-of p) met k e in
-      let r = total-yes sequence-adds-sequences (sequences-of p) met k e in
-      let c′ = total-mono sequence-adds-conditions (sequences-of p) met (k + 1) n (omega arith) in
-      let r′ = total-mono sequence-adds-sequences (sequences-of p) met (k + 1) n (omega arith) in
+      let c = total-yes (s.Condition 0) sequence-adds-conditions (sequences-of p) met k e in
+      let r = total-yes (s.Condition 0) sequence-adds-sequences (sequences-of p) met k e in
+      let c′ = total-mono (s.Condition 0) sequence-adds-conditions (sequences-of p) met (k + 1) n (omega arith) in
+      let r′ = total-mono (s.Condition 0) sequence-adds-sequences (sequences-of p) met (k + 1) n (omega arith) in
       (omega (arith, c, c′, inv .4, room .0), omega (arith, r, r′, inv .5, room .1))

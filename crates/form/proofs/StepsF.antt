@@ -1,6 +1,5 @@
 -- The pass over the pairs of sequences and clocks.
 use mathlib.Core.Bool.{Bool, true, false, _&&_} 
-use mathlib.Core.Bool.{cond}
 use mathlib.Core.List.{List, [], _∷_, _++_}
 use mathlib.Core.Logic.{_⊎_, inl, inr, ⊎-elim, _≢_}
 use mathlib.Core.Path.{_≡_, refl, sym, _∙_, ap, ap₂, subst}
@@ -19,25 +18,12 @@ use Rattle.property.specs.Place.{conditions-of, sequences-of, formulas-of}
 use Rattle.form.proofs.Held.{held-formula}
 use Rattle.form.specs.declared.draft.Draft as code
 use Rattle.form.specs.Draft.{Condition-is, Sequence-is, Formula-is, Grows, Sound, Room}
-use Rattle.form.specs.Pairs.{key}
+use Rattle.form.specs.Pairs.{key, formula-adds-conditions, formula-adds-formulas, total}
 use Rattle.form.specs.Image.{sequence-image, Carries, Sequence-placed, Marked, Sequences-written}
-use Rattle.form.specs.ImageF.{formula-image, For-parts, Formula-placed, Wrote-formula, Formulas-closed, Formulas-written, totalF, formula-adds-conditions, formula-adds-formulas, Inv}
+use Rattle.form.specs.ImageF.{formula-image, For-parts, Formula-placed, Wrote-formula, Formulas-closed, Formulas-written, Formulas-stand}
+use Rattle.form.proofs.Totals.{total-mono, total-yes, total-no}
 use Rattle.form.proofs.Grown.{keep-condition, keep-sequence, keep-formula, grows-twice}
 use Rattle.form.proofs.Steps.{whole, inside, clock-small, entry-of, clock-of}
-
-pub total-mono : (adds : entryF.Formula → ℕ) (rs : List entryF.Formula) (met : List Bool) (m n : ℕ) → m ≤ n → totalF adds rs met m ≤ totalF adds rs met n
-total-mono adds rs met m zero h = let e : m ≡ 0 = omega arith in subst (λ k. totalF adds rs met k ≤ 0) (sym e) (omega arith)
-total-mono adds rs met m (suc n) h =
-    ⊎-elim
-    (λ l. let ih = total-mono adds rs met m n (omega arith) in omega (arith, ih))
-    (λ l. let e : m ≡ suc n = omega arith in subst (λ k. totalF adds rs met k ≤ totalF adds rs met (suc n)) (sym e) (omega arith))
-    (cases-lt m (suc n))
-
-total-yes : (adds : entryF.Formula → ℕ) (rs : List entryF.Formula) (met : List Bool) (k : ℕ) → getD met k false ≡ true → totalF adds rs met (k + 1) ≡ totalF adds rs met k + adds (getD rs (k / 64) (f.Strong 0))
-total-yes adds rs met k e = ap (totalF adds rs met) (add-one k) ∙ ap (λ b. totalF adds rs met k + cond b (adds (getD rs (k / 64) (f.Strong 0))) 0) e
-
-total-no : (adds : entryF.Formula → ℕ) (rs : List entryF.Formula) (met : List Bool) (k : ℕ) → getD met k false ≡ false → totalF adds rs met (k + 1) ≡ totalF adds rs met k
-total-no adds rs met k e = ap (totalF adds rs met) (add-one k) ∙ ap (λ b. totalF adds rs met k + cond b (adds (getD rs (k / 64) (f.Strong 0))) 0) e ∙ omega arith
 
 -- what holds of the parts' pairs: formulas are lower, sequences are there
 pub for-parts : (P Q R S : ℕ → ℕ → Type 0) (n m i c : ℕ) (e : entryF.Formula) → n ≤ 64 → c < 64 → formula-names n m i e ≡ true
@@ -57,24 +43,24 @@ for-parts P Q R S n m i c (f.At a d) few l names g h x =
     let low : d < 64 = omega (arith, ltb-true d n (q .1)) in
     g a d (ltb-true a i (q .0)) low x
 
-module _ (p : Property) (met sm : List Bool) (d₀ d : code.Draft) (sp places : List ℕ) (k : ℕ) (inv : Inv p met sm d₀ d sp places k) where
-  pub step-no : getD met k false ≡ false → Inv p met sm d₀ d sp places (k + 1)
+module _ (p : Property) (met sm : List Bool) (d₀ d : code.Draft) (sp places : List ℕ) (k : ℕ) (inv : Formulas-stand p met sm d₀ d sp places k) where
+  pub step-no : getD met k false ≡ false → Formulas-stand p met sm d₀ d sp places (k + 1)
   step-no e =
       ( inv .0, inv .1, inv .2
       , (λ i c l h m. ⊎-elim (λ h′. inv .3 i c l h′ m)
           (λ h′. let is : key i c ≡ k = omega arith in absurd (both-ways (getD met k false) e (ap (λ k. getD met k false) (sym is) ∙ m)))
           (cases-lt (key i c) k))
-      , inv .4 ∙ ap (λ x. d₀ .counts .conditions + x) (sym (total-no formula-adds-conditions (formulas-of p) met k e))
-      , inv .5 ∙ ap (λ x. d₀ .counts .formulas + x) (sym (total-no formula-adds-formulas (formulas-of p) met k e))
+      , inv .4 ∙ ap (λ x. d₀ .counts .conditions + x) (sym (total-no (f.Strong 0) formula-adds-conditions (formulas-of p) met k e))
+      , inv .5 ∙ ap (λ x. d₀ .counts .formulas + x) (sym (total-no (f.Strong 0) formula-adds-formulas (formulas-of p) met k e))
       , inv .6, inv .7, inv .8 )
 
-  pub step-yes : (d′ : code.Draft) (r : ℕ) → getD met k false ≡ true → k < 4096 → Wrote-formula p (k / 64) (k % 64) d d′ r → Inv p met sm d₀ d′ sp (set places k r) (k + 1)
+  pub step-yes : (d′ : code.Draft) (r : ℕ) → getD met k false ≡ true → k < 4096 → Wrote-formula p (k / 64) (k % 64) d d′ r → Formulas-stand p met sm d₀ d′ sp (set places k r) (k + 1)
   step-yes d′ r e few new =
       ( new .sound, grows-twice (inv .1) (new .grows)
       , (λ j h. keep-condition (new .grows) (inv .2 j h))
       , (λ i c l h m. ⊎-elim (λ h′. old i c h′ (inv .3 i c l h′ m)) (λ h′. let is : key i c ≡ k = omega arith in here i c l is) (cases-lt (key i c) k))
-      , (let q = total-yes formula-adds-conditions (formulas-of p) met k e in omega (arith, q, new .count-c, inv .4))
-      , (let q = total-yes formula-adds-formulas (formulas-of p) met k e in omega (arith, q, new .count-f, inv .5))
+      , (let q = total-yes (f.Strong 0) formula-adds-conditions (formulas-of p) met k e in omega (arith, q, new .count-c, inv .4))
+      , (let q = total-yes (f.Strong 0) formula-adds-formulas (formulas-of p) met k e in omega (arith, q, new .count-f, inv .5))
       , length-set places k r ∙ inv .6
       , (λ i c l h m. keep-sequence (inv .0) (new .grows) (inv .7 i c l h m))
       , new .count-s ∙ inv .8 )
@@ -108,11 +94,11 @@ module _ (p : Property) (met sm : List Bool) (d₀ d : code.Draft) (sp places : 
     low : (a b : ℕ) → a < length (sequences-of p) → b < 64 → key a b < 64 * length (sequences-of p)
     low a b l m = omega arith
 
-  pub room-here : (n : ℕ) → k < n → getD met k false ≡ true → Room d₀ (totalF formula-adds-conditions (formulas-of p) met n) (totalF formula-adds-formulas (formulas-of p) met n)
+  pub room-here : (n : ℕ) → k < n → getD met k false ≡ true → Room d₀ (total (f.Strong 0) formula-adds-conditions (formulas-of p) met n) (total (f.Strong 0) formula-adds-formulas (formulas-of p) met n)
       → Room d (formula-adds-conditions (getD (formulas-of p) (k / 64) (f.Strong 0))) (formula-adds-formulas (getD (formulas-of p) (k / 64) (f.Strong 0)))
   room-here n h e room =
-      let c = total-yes formula-adds-conditions (formulas-of p) met k e in
-      let r = total-yes formula-adds-formulas (formulas-of p) met k e in
-      let c′ = total-mono formula-adds-conditions (formulas-of p) met (k + 1) n (omega arith) in
-      let r′ = total-mono formula-adds-formulas (formulas-of p) met (k + 1) n (omega arith) in
+      let c = total-yes (f.Strong 0) formula-adds-conditions (formulas-of p) met k e in
+      let r = total-yes (f.Strong 0) formula-adds-formulas (formulas-of p) met k e in
+      let c′ = total-mono (f.Strong 0) formula-adds-conditions (formulas-of p) met (k + 1) n (omega arith) in
+      let r′ = total-mono (f.Strong 0) formula-adds-formulas (formulas-of p) met (k + 1) n (omega arith) in
       (omega (arith, c, c′, inv .4, room .0), omega (arith, r, r′, inv .5, room .1))

@@ -12,7 +12,7 @@ use Rattle.property.specs.declared.place.Property.{Property}
 use Rattle.property.specs.Place.{conditions-of, sequences-of, condition-trees, sequence-trees}
 use Rattle.form.specs.declared.draft.Draft as code
 use Rattle.form.specs.Draft.{Condition-is, Sequence-is, Sound, Grows}
-use Rattle.form.specs.Pairs.{key, sequence-adds-conditions, sequence-adds-sequences}
+use Rattle.form.specs.Pairs.{key, sequence-adds-conditions, sequence-adds-sequences, total}
 
 -- what clock removal makes of sequence i under clock c
 abbrev pub sequence-image : Property → ℕ → ℕ → Sequence
@@ -44,6 +44,7 @@ pub record Wrote-sequence (p : Property) (i c : ℕ) (d e : code.Draft) (r : ℕ
   pub is : Sequence-is e r (sequence-image p i c)
   pub count-c : e .counts .conditions ≡ d .counts .conditions + sequence-adds-conditions (getD (sequences-of p) i (s.Condition 0))
   pub count-s : e .counts .sequences ≡ d .counts .sequences + sequence-adds-sequences (getD (sequences-of p) i (s.Condition 0))
+  pub count-f : e .counts .formulas ≡ d .counts .formulas
 
 -- pair (i, c) is marked
 abbrev pub Marked : List Bool → ℕ → ℕ → Type 0
@@ -58,3 +59,11 @@ Sequences-closed p met =
 -- each marked pair below key n has its image
 abbrev pub Sequences-written : Property → List Bool → code.Draft → List ℕ → ℕ → Type 0
 Sequences-written p met d places n = (i c : ℕ) → c < 64 → key i c < n → Marked met i c → Sequence-placed p d places i c
+
+-- what stands after the pairs of sequences below key k were written
+abbrev pub Sequences-stand : Property → List Bool → code.Draft → code.Draft → List ℕ → ℕ → Type 0
+Sequences-stand p met d₀ d places k =
+    Sound d × Grows d₀ d × Carries p d × Sequences-written p met d places k
+    × (d .counts .conditions ≡ d₀ .counts .conditions + total (s.Condition 0) sequence-adds-conditions (sequences-of p) met k)
+    × (d .counts .sequences ≡ d₀ .counts .sequences + total (s.Condition 0) sequence-adds-sequences (sequences-of p) met k)
+    × (length places ≡ 4096) × (d .counts .formulas ≡ d₀ .counts .formulas)

@@ -2,6 +2,7 @@ pub mod Entries
 pub mod Draft
 pub mod Pairs
 pub mod Image
-pub mod Marks
 pub mod ImageF
-pub mod MarksF
+pub mod Met
+pub mod Refusals
+pub mod Limits

@@ -6,6 +6,8 @@ use Prim.Native.Nat.{ℕ, zero, suc, _+_, _*_, _/_, _%_, _≤_, _<_}
 use lib.ListN.{length, getD}
 use Rattle.psl.specs.declared.entry.Sequence as entryS
 use Rattle.psl.specs.declared.entry.Sequence.the-variants as s
+use Rattle.psl.specs.declared.entry.Formula as entryF
+use Rattle.psl.specs.declared.entry.Formula.the-variants as f
 
 abbrev pub key : ℕ → ℕ → ℕ
 key i c = 64 * i + c
@@ -31,7 +33,34 @@ sequence-adds-sequences s.Empty = 1
 sequence-adds-sequences (s.Star a) = 1
 sequence-adds-sequences (s.At a d) = 0
 
+-- what a met formula adds
+abbrev pub formula-adds-conditions : entryF.Formula → ℕ
+formula-adds-conditions (f.Strong a) = 2
+formula-adds-conditions (f.Weak a) = 3
+formula-adds-conditions (f.StrongSequence a) = 0
+formula-adds-conditions (f.WeakSequence a) = 0
+formula-adds-conditions (f.Not a) = 0
+formula-adds-conditions (f.And a b) = 0
+formula-adds-conditions (f.Next a) = 1
+formula-adds-conditions (f.Until a b) = 0
+formula-adds-conditions (f.Abort a b) = 0
+formula-adds-conditions (f.Implies a b) = 0
+formula-adds-conditions (f.At a d) = 0
+
+abbrev pub formula-adds-formulas : entryF.Formula → ℕ
+formula-adds-formulas (f.Strong a) = 3
+formula-adds-formulas (f.Weak a) = 4
+formula-adds-formulas (f.StrongSequence a) = 1
+formula-adds-formulas (f.WeakSequence a) = 1
+formula-adds-formulas (f.Not a) = 1
+formula-adds-formulas (f.And a b) = 1
+formula-adds-formulas (f.Next a) = 7
+formula-adds-formulas (f.Until a b) = 6
+formula-adds-formulas (f.Abort a b) = 1
+formula-adds-formulas (f.Implies a b) = 1
+formula-adds-formulas (f.At a d) = 0
+
 -- what the met pairs below key n add in all
-abbrev pub total : (entryS.Sequence → ℕ) → List entryS.Sequence → List Bool → ℕ → ℕ
-total adds rs met zero = 0
-total adds rs met (suc k) = total adds rs met k + cond (getD met k false) (adds (getD rs (k / 64) (s.Condition 0))) 0
+abbrev pub total : {E : Type 0} → E → (E → ℕ) → List E → List Bool → ℕ → ℕ
+total e adds es met zero = 0
+total e adds es met (suc k) = total e adds es met k + cond (getD met k false) (adds (getD es (k / 64) e)) 0

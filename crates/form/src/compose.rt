@@ -5,7 +5,8 @@ ghost use Rattle.psl.specs.declared.entry.Formula.the-variants.{Strong};
 ghost use Rattle.property.specs.Place.{conditions-of, sequences-of, formulas-of};
 ghost use Rattle.form.specs.Draft.{Sound, Room};
 ghost use Rattle.form.specs.Image.{Carries, Sequence-placed, Sequences-written};
-ghost use Rattle.form.specs.ImageF.{For-parts, Formula-placed, formula-adds-conditions, formula-adds-formulas, Wrote-formula, Formulas-closed, totalF, Inv};
+ghost use Rattle.form.specs.ImageF.{For-parts, Formula-placed, Wrote-formula, Formulas-closed, Formulas-stand};
+ghost use Rattle.form.specs.Pairs.{formula-adds-conditions, formula-adds-formulas, total};
 use crate::build::add_next;
 use crate::build::add_strong;
 use crate::build::add_until;
@@ -52,8 +53,8 @@ pub fn write_formulas(p: &Property, fm: &[bool], sm: &[bool], d: &mut Draft, seq
     requires carries { ⌜ Carries (now p) (now d) ⌝ }
     requires closed { ⌜ Formulas-closed (now p) (now fm) (now sm) ⌝ }
     requires written { ⌜ Sequences-written (now p) (now sm) (now d) (now sequences) (64 * length (sequences-of (now p))) ⌝ }
-    requires room { ⌜ Room (now d) (totalF formula-adds-conditions (formulas-of (now p)) (now fm) (64 * length (formulas-of (now p)))) (totalF formula-adds-formulas (formulas-of (now p)) (now fm) (64 * length (formulas-of (now p)))) ⌝ }
-    ensures { λ _. ⌜ Inv (now (p .entry)) (now (fm .entry)) (now (sm .entry)) (now (d .entry)) (now (d .exit)) (now (sequences .entry)) (now (places .exit)) (64 * length (formulas-of (now (p .entry)))) ⌝ }
+    requires room { ⌜ Room (now d) (total (Strong 0) formula-adds-conditions (formulas-of (now p)) (now fm) (64 * length (formulas-of (now p)))) (total (Strong 0) formula-adds-formulas (formulas-of (now p)) (now fm) (64 * length (formulas-of (now p)))) ⌝ }
+    ensures { λ _. ⌜ Formulas-stand (now (p .entry)) (now (fm .entry)) (now (sm .entry)) (now (d .entry)) (now (d .exit)) (now (sequences .entry)) (now (places .exit)) (64 * length (formulas-of (now (p .entry)))) ⌝ }
 {
     let n = p.formula_count();
     let _m = p.condition_count();

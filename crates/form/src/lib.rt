@@ -1,9 +1,11 @@
 // Clock-free forms: the rewritten tables of a property, and the place that keeps them.
-pub mod draft;
 mod build;
 mod compose;
+mod count;
+pub mod draft;
 mod entries;
 mod mark;
 mod mark_formula;
 mod push;
+pub mod refusal;
 mod write;

@@ -4,7 +4,7 @@ ghost use Prim.Native.Nat.{ℕ, _+_, _*_, _<_, _≤_};
 ghost use lib.ListN.{length, getD, set};
 ghost use Rattle.psl.specs.declared.entry.Sequence.the-variants.{Condition as Is};
 ghost use Rattle.property.specs.Place.{conditions-of, sequences-of};
-ghost use Rattle.form.specs.Marks.{with-operands, Clocks, Least-sequences};
+ghost use Rattle.form.specs.Met.{with-operands, meet-sequences};
 use crate::entries::sequence_at;
 use property::place::Property;
 use psl::entry::Sequence;
@@ -51,8 +51,7 @@ fn mark_sequence(p: &Property, met: &mut [bool], i: usize, c: usize)
 // Marks, with each marked pair, those of its operands.
 pub fn mark_sequences(p: &Property, met: &mut [bool])
     requires long { ⌜ length (now met) ≡ 4096 ⌝ }
-    requires clocks { ⌜ Clocks (now p) (now met) ⌝ }
-    ensures { λ _. ⌜ Least-sequences (now (p .entry)) (now (met .entry)) (now (met .exit)) ⌝ }
+    ensures { λ _. ⌜ now (met .exit) ≡ meet-sequences (sequences-of (now (p .entry))) (64 * length (sequences-of (now (p .entry)))) (now (met .entry)) ⌝ }
 {
     let n = p.sequence_count();
     let _m = p.condition_count();

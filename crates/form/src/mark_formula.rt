@@ -4,10 +4,10 @@ ghost use Prim.Native.Nat.{ℕ, _+_, _*_, _<_, _≤_};
 ghost use lib.ListN.{length, getD, set};
 ghost use Rattle.psl.specs.declared.entry.Formula.the-variants.{Strong};
 ghost use Rattle.property.specs.Place.{conditions-of, sequences-of, formulas-of};
-ghost use Rattle.form.specs.Marks.{Clocks};
-ghost use Rattle.form.specs.MarksF.{with-formulas, with-sequences, Least-formulas};
-use crate::mark::put;
+ghost use Rattle.form.specs.Met.{with-formulas, with-sequences, marks, meet-formulas, unmarked, met};
 use crate::entries::formula_at;
+use crate::mark::mark_sequences;
+use crate::mark::put;
 use property::place::Property;
 use psl::entry::Formula;
 
@@ -46,8 +46,7 @@ fn mark_formula(p: &Property, fm: &mut [bool], sm: &mut [bool], i: usize, c: usi
 // Marks, with each marked pair of a formula, those of its parts.
 pub fn mark_formulas(p: &Property, fm: &mut [bool], sm: &mut [bool])
     requires long { ⌜ (length (now fm) ≡ 4096) × (length (now sm) ≡ 4096) ⌝ }
-    requires clocks { ⌜ Clocks (now p) (now fm) × Clocks (now p) (now sm) ⌝ }
-    ensures { λ _. ⌜ Least-formulas (now (p .entry)) (now (fm .entry)) (now (sm .entry)) (now (fm .exit)) (now (sm .exit)) ⌝ }
+    ensures { λ _. ⌜ marks (now (fm .exit)) (now (sm .exit)) ≡ meet-formulas (formulas-of (now (p .entry))) (64 * length (formulas-of (now (p .entry)))) (marks (now (fm .entry)) (now (sm .entry))) ⌝ }
 {
     let n = p.formula_count();
     let _m = p.condition_count();
@@ -59,4 +58,15 @@ pub fn mark_formulas(p: &Property, fm: &mut [bool], sm: &mut [bool])
             mark_formula(p, fm, sm, k / 64, k % 64);
         }
     }
+}
+
+// Marks the pairs of formulas and of sequences that are met.
+pub fn mark_met(p: &Property, fm: &mut [bool], sm: &mut [bool])
+    requires blank_formulas { ⌜ now fm ≡ unmarked ⌝ }
+    requires blank_sequences { ⌜ now sm ≡ unmarked ⌝ }
+    ensures { λ _. ⌜ marks (now (fm .exit)) (now (sm .exit)) ≡ met (now (p .entry)) ⌝ }
+{
+    put(fm, p.formula_count() as u16 - 1, 0);
+    mark_formulas(p, fm, sm);
+    mark_sequences(p, sm);
 }

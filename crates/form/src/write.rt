@@ -6,7 +6,7 @@ ghost use Rattle.psl.specs.declared.entry.Sequence.the-variants.{Condition as I
 ghost use Rattle.property.specs.Place.{conditions-of, sequences-of};
 ghost use Rattle.form.specs.Draft.{Sound, Grows};
 ghost use Rattle.form.specs.Pairs.{sequence-adds-conditions, sequence-adds-sequences, total};
-ghost use Rattle.form.specs.Image.{Carries, For-operands, Sequence-placed, Wrote-sequence, Sequences-closed, Sequences-written};
+ghost use Rattle.form.specs.Image.{Carries, For-operands, Sequence-placed, Wrote-sequence, Sequences-closed, Sequences-stand};
 use crate::draft::Draft;
 use crate::push::add_sequence;
 use crate::push::tick;
@@ -55,14 +55,9 @@ pub fn write_sequences(p: &Property, met: &[bool], d: &mut Draft, places: &mut [
     requires sound { ⌜ Sound (now d) ⌝ }
     requires carries { ⌜ Carries (now p) (now d) ⌝ }
     requires closed { ⌜ Sequences-closed (now p) (now met) ⌝ }
-    requires room { ⌜ ((now d) .counts .conditions + total sequence-adds-conditions (sequences-of (now p)) (now met) (64 * length (sequences-of (now p))) ≤ 256)
-        × ((now d) .counts .sequences + total sequence-adds-sequences (sequences-of (now p)) (now met) (64 * length (sequences-of (now p))) ≤ 256) ⌝ }
-    ensures sound { λ _. ⌜ Sound (now (d .exit)) ⌝ }
-    ensures grows { λ _. ⌜ Grows (now (d .entry)) (now (d .exit)) ⌝ }
-    ensures carries { λ _. ⌜ Carries (now (p .entry)) (now (d .exit)) ⌝ }
-    ensures written { λ _. ⌜ Sequences-written (now (p .entry)) (now (met .entry)) (now (d .exit)) (now (places .exit)) (64 * length (sequences-of (now (p .entry)))) ⌝ }
-    ensures counts { λ _. ⌜ ((now (d .exit)) .counts .conditions ≡ (now (d .entry)) .counts .conditions + total sequence-adds-conditions (sequences-of (now (p .entry))) (now (met .entry)) (64 * length (sequences-of (now (p .entry)))))
-        × ((now (d .exit)) .counts .sequences ≡ (now (d .entry)) .counts .sequences + total sequence-adds-sequences (sequences-of (now (p .entry))) (now (met .entry)) (64 * length (sequences-of (now (p .entry))))) ⌝ }
+    requires room { ⌜ ((now d) .counts .conditions + total (Is 0) sequence-adds-conditions (sequences-of (now p)) (now met) (64 * length (sequences-of (now p))) ≤ 256)
+        × ((now d) .counts .sequences + total (Is 0) sequence-adds-sequences (sequences-of (now p)) (now met) (64 * length (sequences-of (now p))) ≤ 256) ⌝ }
+    ensures { λ _. ⌜ Sequences-stand (now (p .entry)) (now (met .entry)) (now (d .entry)) (now (d .exit)) (now (places .exit)) (64 * length (sequences-of (now (p .entry)))) ⌝ }
 {
     let n = p.sequence_count();
     let _m = p.condition_count();

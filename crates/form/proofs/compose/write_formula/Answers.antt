@@ -11,7 +11,8 @@ use Rattle.psl.specs.Removal.{unclock}
 use Rattle.form.specs.Draft.{on-tick}
 use Rattle.psl.specs.declared.entry.Formula.the-variants as f
 use Rattle.form.specs.Draft.{Formula-is, formulas-in}
-use Rattle.form.specs.ImageF.{formula-image, formula-adds-conditions, formula-adds-formulas}
+use Rattle.form.specs.ImageF.{formula-image}
+use Rattle.form.specs.Pairs.{formula-adds-conditions, formula-adds-formulas}
 use Rattle.form.proofs.Grown.{grows-none, formula-as}
 use Rattle.form.proofs.Images.{operandS}
 use Rattle.form.proofs.ImagesF.{wrote, built, ready-at, part, image-is}

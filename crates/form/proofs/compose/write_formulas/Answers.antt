@@ -5,7 +5,7 @@ use lib.ListN.{getD, length}
 use borrow.Author.Needs.{needs}
 use native.Mathlib.Omega.{arith}
 use Rattle.property.specs.Place.{sequences-of, formulas-of}
-use Rattle.form.specs.ImageF.{Inv}
+use Rattle.form.specs.ImageF.{Formulas-stand}
 use Rattle.form.proofs.Grown.{grows-none}
 use Rattle.form.proofs.Steps.{inside}
 use Rattle.form.proofs.StepsF.{step-yes, step-no, ready-here, room-here}
@@ -47,11 +47,11 @@ loop-k-again c =
     let few : k < 4096 = omega (arith, c .loop-k-test .taken, c .formula-count-n .ensures .high-bound) in
     elim (c .if-fm-k .came)
     [ then-fm-k w ↦
-        subst (λ d. Inv p fm sm (c .args .d .now) d sp (c .if-fm-k .places) (k + 1)) (sym (w .d-is))
-        (subst (λ ps. Inv p fm sm (c .args .d .now) (w .write-formula-r .last .d) sp ps (k + 1)) (sym (w .places-is))
+        subst (λ d. Formulas-stand p fm sm (c .args .d .now) d sp (c .if-fm-k .places) (k + 1)) (sym (w .d-is))
+        (subst (λ ps. Formulas-stand p fm sm (c .args .d .now) (w .write-formula-r .last .d) sp ps (k + 1)) (sym (w .places-is))
           (step-yes p fm sm _ _ _ _ k inv _ _ (w .if-fm-k .taken) few (w .write-formula-r .ensures)))
     | else-fm-k w ↦
-        subst (λ d. Inv p fm sm (c .args .d .now) d sp (c .if-fm-k .places) (k + 1)) (sym (w .d-is))
-        (subst (λ ps. Inv p fm sm (c .args .d .now) (c .loop-k .d) sp ps (k + 1)) (sym (w .places-is))
+        subst (λ d. Formulas-stand p fm sm (c .args .d .now) d sp (c .if-fm-k .places) (k + 1)) (sym (w .d-is))
+        (subst (λ ps. Formulas-stand p fm sm (c .args .d .now) (c .loop-k .d) sp ps (k + 1)) (sym (w .places-is))
           (step-no p fm sm _ _ _ _ k inv (w .if-fm-k .left)))
     ]

@@ -40,6 +40,7 @@ returns-in-Condition c =
     ; is = sequence-as (ap₂ (λ t u. unclock-sequence t (condition u)) (clock .is) (under .is) ∙ sym (image-is p i k (c .pre .there) (s.Condition (c .in-Condition .b)) told)) (new .is)
     ; count-c = omega (arith, new .counts .0, ap sequence-adds-conditions (told .is))
     ; count-s = omega (arith, new .counts .1, ap sequence-adds-sequences (told .is))
+    ; count-f = new .counts .2
     }
 
 pub returns-in-Concat : need.returns-in-Concat
@@ -129,4 +130,5 @@ returns-in-At c =
     ; is = subst (λ r. Sequence-is d r (sequence-image p i k)) (sym (c .place-in-At .ensures)) (sequence-as (sym (image-is p i k (c .pre .there) e told)) ready)
     ; count-c = omega (arith, ap sequence-adds-conditions (told .is))
     ; count-s = omega (arith, ap sequence-adds-sequences (told .is))
+    ; count-f = refl
     }

@@ -5,14 +5,15 @@ use lib.ListN.{getD, length}
 use borrow.Author.Needs.{needs}
 use native.Mathlib.Omega.{arith}
 use Rattle.property.specs.Place.{sequences-of}
+use Rattle.form.specs.Image.{Sequences-stand}
 use Rattle.form.proofs.Grown.{grows-none}
-use Rattle.form.proofs.Steps.{Inv, step-yes, step-no, ready-here, room-here, inside}
+use Rattle.form.proofs.Steps.{step-yes, step-no, ready-here, room-here, inside}
 use Rattle.form.proofs.write.write_sequences.Needs as need
 use Rattle.form.proofs.write.write_sequences.Needs.{then-met-k, else-met-k}
 
 pub loop-k-holds : need.loop-k-holds
 loop-k-holds c =
-    (c .pre .sound, grows-none (c .args .d .now), c .pre .carries, (λ i c l h m. let z : ⊥ = omega arith in absurd z), omega arith, omega arith, c .pre .long)
+    (c .pre .sound, grows-none (c .args .d .now), c .pre .carries, (λ i c l h m. let z : ⊥ = omega arith in absurd z), omega arith, omega arith, c .pre .long, refl)
 
 pub write-sequence-r-requires : need.write-sequence-r-requires
 write-sequence-r-requires c κs =
@@ -44,11 +45,11 @@ loop-k-again c =
     let few : k < 4096 = omega (arith, c .loop-k-test .taken, c .sequence-count-n .ensures .high-bound) in
     elim (c .if-met-k .came)
     [ then-met-k w ↦
-        subst (λ d. Inv p met (c .args .d .now) d (c .if-met-k .places) (k + 1)) (sym (w .d-is))
-        (subst (λ ps. Inv p met (c .args .d .now) (w .write-sequence-r .last .d) ps (k + 1)) (sym (w .places-is))
+        subst (λ d. Sequences-stand p met (c .args .d .now) d (c .if-met-k .places) (k + 1)) (sym (w .d-is))
+        (subst (λ ps. Sequences-stand p met (c .args .d .now) (w .write-sequence-r .last .d) ps (k + 1)) (sym (w .places-is))
           (step-yes p met _ _ _ k inv _ _ (w .if-met-k .taken) few (w .write-sequence-r .ensures)))
     | else-met-k w ↦
-        subst (λ d. Inv p met (c .args .d .now) d (c .if-met-k .places) (k + 1)) (sym (w .d-is))
-        (subst (λ ps. Inv p met (c .args .d .now) (c .loop-k .d) ps (k + 1)) (sym (w .places-is))
+        subst (λ d. Sequences-stand p met (c .args .d .now) d (c .if-met-k .places) (k + 1)) (sym (w .d-is))
+        (subst (λ ps. Sequences-stand p met (c .args .d .now) (c .loop-k .d) ps (k + 1)) (sym (w .places-is))
           (step-no p met _ _ _ k inv (w .if-met-k .left)))
     ]

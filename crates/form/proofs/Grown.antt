@@ -13,12 +13,13 @@ use Rattle.std.proofs.shelf.Tests.{ltb-true, lt-ltb, and-parts, and-from, cases
 use Rattle.psl.specs.Syntax.{Condition, Sequence, Formula, falsity, empty, condition, sequence-at, strong, weak, strong-sequence, weak-sequence, abort, implies, formula-at}
 use Rattle.psl.specs.Table.{grow, condition-of, conditions, sequence-of, sequences, formula-of, formulas, nothing}
 use Rattle.psl.specs.declared.entry.Condition as entryC
+use Rattle.psl.specs.declared.entry.Condition.the-variants as c
 use Rattle.psl.specs.declared.entry.Sequence as entryS
 use Rattle.psl.specs.declared.entry.Sequence.the-variants as s
 use Rattle.psl.specs.declared.entry.Formula as entryF
 use Rattle.psl.specs.declared.entry.Formula.the-variants as f
 use Rattle.psl.proofs.Grow.{grow-push, grow-take, length-grow}
-use Rattle.file.specs.Operands.{sequence-names, formula-names}
+use Rattle.file.specs.Operands.{condition-names, sequence-names, formula-names}
 use Rattle.form.specs.declared.draft.Draft as code
 use Rattle.form.specs.Draft.{conditions-in, sequences-in, formulas-in, Sound, Condition-is, Sequence-is, Formula-is, Grows, Added-formula}
 
@@ -182,24 +183,15 @@ keep-formula {d = d} {e = e} {k = k} ok g r =
         ∙ r .is
     }
 
-push-names-f : (n m : ℕ) (es : List entryF.Formula) (e : entryF.Formula)
-    → ((k : ℕ) → k < length es → formula-names n m k (getD es k (f.Strong 0)) ≡ true) → formula-names n m (length es) e ≡ true
-    → (k : ℕ) → k < length (es ++ (e ∷ [])) → formula-names n m k (getD (es ++ (e ∷ [])) k (f.Strong 0)) ≡ true
-push-names-f n m es e all here k h =
+-- one more entry names what it may
+push-names : {E : Type 0} (names : ℕ → E → Bool) (first : E) (es : List E) (e : E)
+    → ((k : ℕ) → k < length es → names k (getD es k first) ≡ true) → names (length es) e ≡ true
+    → (k : ℕ) → k < length (es ++ (e ∷ [])) → names k (getD (es ++ (e ∷ [])) k first) ≡ true
+push-names names first es e all here k h =
     ⊎-elim
-    (λ l. ap (formula-names n m k) (getD-append-left es (e ∷ []) (f.Strong 0) k l) ∙ all k l)
+    (λ l. ap (names k) (getD-append-left es (e ∷ []) first k l) ∙ all k l)
     (λ l. let is : length es ≡ k = omega (arith, length-push es e) in
-      ap (formula-names n m k) (getD-push es e (f.Strong 0) k is) ∙ subst (λ i. formula-names n m i e ≡ true) is here)
-    (cases-lt k (length es))
-
-push-names : (n : ℕ) (es : List entryS.Sequence) (e : entryS.Sequence)
-    → ((k : ℕ) → k < length es → sequence-names n k (getD es k (s.Condition 0)) ≡ true) → sequence-names n (length es) e ≡ true
-    → (k : ℕ) → k < length (es ++ (e ∷ [])) → sequence-names n k (getD (es ++ (e ∷ [])) k (s.Condition 0)) ≡ true
-push-names n es e all here k h =
-    ⊎-elim
-    (λ l. ap (sequence-names n k) (getD-append-left es (e ∷ []) (s.Condition 0) k l) ∙ all k l)
-    (λ l. let is : length es ≡ k = omega (arith, length-push es e) in
-      ap (sequence-names n k) (getD-push es e (s.Condition 0) k is) ∙ subst (λ i. sequence-names n i e ≡ true) is here)
+      ap (names k) (getD-push es e first k is) ∙ subst (λ i. names i e ≡ true) is here)
     (cases-lt k (length es))
 
 module _ (d : code.Draft) (ok : Sound d) where
@@ -212,7 +204,7 @@ module _ (d : code.Draft) (ok : Sound d) where
       ; formulas = d .formulas
       }
 
-  module _ (e : entryC.Condition) (room : d .counts .conditions < 256) where
+  module _ (e : entryC.Condition) (room : d .counts .conditions < 256) (fine : condition-names (length (conditions-in d)) e ≡ true) where
     push-c : conditions-in (with-condition e) ≡ conditions-in d ++ (e ∷ [])
     push-c = take-more-set (d .conditions) (d .counts .conditions) e (omega (arith, ok .long-c))
 
@@ -237,6 +229,7 @@ module _ (d : code.Draft) (ok : Sound d) where
     condition-sound =
         record
         { long-c = length-set (d .conditions) (d .counts .conditions) e ∙ ok .long-c
+        ; names-c = subst (λ es. (k : ℕ) → k < length es → condition-names k (getD es k c.True) ≡ true) (sym push-c) (push-names condition-names c.True (conditions-in d) e (ok .names-c) fine)
         ; long-s = ok .long-s
         ; few-c = omega arith
         ; few-s = ok .few-s
@@ -280,13 +273,14 @@ module _ (d : code.Draft) (ok : Sound d) where
     sequence-sound =
         record
         { long-c = ok .long-c
+        ; names-c = ok .names-c
         ; long-s = length-set (d .sequences) (d .counts .sequences) e ∙ ok .long-s
         ; few-c = ok .few-c
         ; few-s = omega arith
         ; long-f = ok .long-f
         ; few-f = ok .few-f
         ; names-f = λ k h. names-more-f (length (conditions-in d)) (length (conditions-in d)) (length (sequences-in d)) (length (sequences-in (with-sequence e))) k _ (omega arith) (omega (arith, ap length push-s, length-push (sequences-in d) e)) (ok .names-f k h)
-        ; names = subst (λ es. (k : ℕ) → k < length es → sequence-names (length (conditions-in d)) k (getD es k (s.Condition 0)) ≡ true) (sym push-s) (push-names (length (conditions-in d)) (sequences-in d) e (ok .names) fine)
+        ; names = subst (λ es. (k : ℕ) → k < length es → sequence-names (length (conditions-in d)) k (getD es k (s.Condition 0)) ≡ true) (sym push-s) (push-names (sequence-names (length (conditions-in d))) (s.Condition 0) (sequences-in d) e (ok .names) fine)
         }
 
 pub condition-as : {d : code.Draft} {k : ℕ} {t u : Condition} → t ≡ u → Condition-is d k t → Condition-is d k u
@@ -323,13 +317,14 @@ module _ (d : code.Draft) (ok : Sound d) where
     formula-sound =
         record
         { long-c = ok .long-c
+        ; names-c = ok .names-c
         ; long-s = ok .long-s
         ; few-c = ok .few-c
         ; few-s = ok .few-s
         ; names = ok .names
         ; long-f = length-set (d .formulas) (d .counts .formulas) e ∙ ok .long-f
         ; few-f = omega arith
-        ; names-f = subst (λ es. (k : ℕ) → k < length es → formula-names (length (conditions-in d)) (length (sequences-in d)) k (getD es k (f.Strong 0)) ≡ true) (sym push-f) (push-names-f (length (conditions-in d)) (length (sequences-in d)) (formulas-in d) e (ok .names-f) fine)
+        ; names-f = subst (λ es. (k : ℕ) → k < length es → formula-names (length (conditions-in d)) (length (sequences-in d)) k (getD es k (f.Strong 0)) ≡ true) (sym push-f) (push-names (formula-names (length (conditions-in d)) (length (sequences-in d))) (f.Strong 0) (formulas-in d) e (ok .names-f) fine)
         }
 
     pub formula-added : Added-formula d (with-formula e) e (d .counts .formulas)

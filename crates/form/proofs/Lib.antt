@@ -8,3 +8,5 @@ pub mod ImagesF
 pub mod StepsF
 pub mod MarkingF
 pub mod Meeting
+pub mod Begun
+pub mod NewForm

@@ -8,11 +8,12 @@ use Rattle.psl.specs.Syntax.{Condition, Sequence, Formula, falsity, empty, stro
 use Rattle.psl.specs.Removal.{after-waiting}
 use Rattle.psl.specs.Table.{condition-of, conditions, sequence-of, sequences, formula-of, formulas, nothing}
 use Rattle.psl.specs.declared.entry.Condition as entryC
+use Rattle.psl.specs.declared.entry.Condition.the-variants.{True}
 use Rattle.psl.specs.declared.entry.Sequence as entryS
 use Rattle.psl.specs.declared.entry.Sequence.the-variants.{Condition as Is}
 use Rattle.psl.specs.declared.entry.Formula as entryF
 use Rattle.psl.specs.declared.entry.Formula.the-variants.{Strong}
-use Rattle.file.specs.Operands.{sequence-names, formula-names}
+use Rattle.file.specs.Operands.{condition-names, sequence-names, formula-names}
 use Rattle.form.specs.declared.draft.Draft as code
 
 -- f at the first tick of c
@@ -28,11 +29,12 @@ sequences-in d = take (d .counts .sequences) (d .sequences)
 abbrev pub formulas-in : code.Draft → List entryF.Formula
 formulas-in d = take (d .counts .formulas) (d .formulas)
 
--- the arrays are whole, and each operand of a sequence names an entry
+-- the arrays are whole, and each entry names what it may
 pub record Sound (d : code.Draft) : Type 0 where
   pub long-c : length (d .conditions) ≡ 256
   pub long-s : length (d .sequences) ≡ 256
   pub few-c : d .counts .conditions ≤ 256
+  pub names-c : (k : ℕ) → k < length (conditions-in d) → condition-names k (getD (conditions-in d) k True) ≡ true
   pub few-s : d .counts .sequences ≤ 256
   pub names : (k : ℕ) → k < length (sequences-in d) → sequence-names (length (conditions-in d)) k (getD (sequences-in d) k (Is 0)) ≡ true
   pub long-f : length (d .formulas) ≡ 256

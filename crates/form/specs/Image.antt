@@ -67,3 +67,11 @@ Sequences-stand p met d₀ d places k =
     × (d .counts .conditions ≡ d₀ .counts .conditions + total (s.Condition 0) sequence-adds-conditions (sequences-of p) met k)
     × (d .counts .sequences ≡ d₀ .counts .sequences + total (s.Condition 0) sequence-adds-sequences (sequences-of p) met k)
     × (length places ≡ 4096) × (d .counts .formulas ≡ d₀ .counts .formulas)
+
+-- a draft with the property's conditions and nothing else
+pub record Fresh (p : Property) (d : code.Draft) : Type 0 where
+  pub sound : Sound d
+  pub carries : Carries p d
+  pub count-c : d .counts .conditions ≡ length (conditions-of p)
+  pub count-s : d .counts .sequences ≡ 0
+  pub count-f : d .counts .formulas ≡ 0

@@ -6,3 +6,4 @@ pub mod ImageF
 pub mod Met
 pub mod Refusals
 pub mod Limits
+pub mod Rewritten

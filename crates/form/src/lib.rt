@@ -7,5 +7,6 @@ mod entries;
 mod mark;
 mod mark_formula;
 mod push;
+mod rewrite;
 pub mod refusal;
 mod write;

@@ -5,7 +5,7 @@ ghost use lib.ListN.{length, getD, take};
 ghost use Rattle.psl.specs.Syntax.{falsity, condition};
 ghost use Rattle.psl.specs.Removal.{unclock-sequence};
 ghost use Rattle.psl.specs.Table.{condition-of, conditions, sequence-of, sequences};
-ghost use Rattle.file.specs.Operands.{sequence-names, formula-names};
+ghost use Rattle.file.specs.Operands.{condition-names, sequence-names, formula-names};
 ghost use Rattle.form.specs.Draft.{conditions-in, sequences-in, formulas-in, Sound, Condition-is, Sequence-is, Grows, Added-condition, Added-sequence, Added-formula};
 use crate::draft::Draft;
 use psl::entry::Condition;
@@ -15,6 +15,7 @@ use psl::entry::Sequence;
 pub fn add_condition(d: &mut Draft, e: Condition) -> u16
     requires sound { ⌜ Sound (now d) ⌝ }
     requires room { ⌜ (now d) .counts .conditions < 256 ⌝ }
+    requires names { ⌜ condition-names (length (conditions-in (now d))) e ≡ true ⌝ }
     ensures { λ r. ⌜ Added-condition (now (d .entry)) (now (d .exit)) e r ⌝ }
 {
     let n = d.counts.conditions;

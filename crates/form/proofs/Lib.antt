@@ -10,3 +10,5 @@ pub mod MarkingF
 pub mod Meeting
 pub mod Begun
 pub mod NewForm
+pub mod Made
+pub mod Asked

@@ -29,17 +29,38 @@ sequences-in d = take (d .counts .sequences) (d .sequences)
 abbrev pub formulas-in : code.Draft → List entryF.Formula
 formulas-in d = take (d .counts .formulas) (d .formulas)
 
--- the arrays are whole, and each entry names what it may
+-- each entry names what it may
+abbrev pub All-named : {E : Type 0} → (ℕ → E → Bool) → E → List E → Type 0
+All-named names first es = (k : ℕ) → k < length es → names k (getD es k first) ≡ true
+
+abbrev pub Conditions-named : code.Draft → Type 0
+Conditions-named d = All-named condition-names True (conditions-in d)
+
+abbrev pub Sequences-named : code.Draft → Type 0
+Sequences-named d = All-named (sequence-names (length (conditions-in d))) (Is 0) (sequences-in d)
+
+abbrev pub Formulas-named : code.Draft → Type 0
+Formulas-named d = All-named (formula-names (length (conditions-in d)) (length (sequences-in d))) (Strong 0) (formulas-in d)
+
+-- the tables are whole
+abbrev pub Whole : code.Draft → Type 0
+Whole d = (length (d .conditions) ≡ 256) × (length (d .sequences) ≡ 256) × (length (d .formulas) ≡ 256)
+
+-- the counts are within the tables
+abbrev pub Within-tables : code.Draft → Type 0
+Within-tables d = (d .counts .conditions ≤ 256) × (d .counts .sequences ≤ 256) × (d .counts .formulas ≤ 256)
+
+-- the tables are whole, and each entry names what it may
 pub record Sound (d : code.Draft) : Type 0 where
   pub long-c : length (d .conditions) ≡ 256
   pub long-s : length (d .sequences) ≡ 256
-  pub few-c : d .counts .conditions ≤ 256
-  pub names-c : (k : ℕ) → k < length (conditions-in d) → condition-names k (getD (conditions-in d) k True) ≡ true
-  pub few-s : d .counts .sequences ≤ 256
-  pub names : (k : ℕ) → k < length (sequences-in d) → sequence-names (length (conditions-in d)) k (getD (sequences-in d) k (Is 0)) ≡ true
   pub long-f : length (d .formulas) ≡ 256
+  pub few-c : d .counts .conditions ≤ 256
+  pub few-s : d .counts .sequences ≤ 256
   pub few-f : d .counts .formulas ≤ 256
-  pub names-f : (k : ℕ) → k < length (formulas-in d) → formula-names (length (conditions-in d)) (length (sequences-in d)) k (getD (formulas-in d) k (Strong 0)) ≡ true
+  pub names-c : Conditions-named d
+  pub names : Sequences-named d
+  pub names-f : Formulas-named d
 
 -- condition entry k is the tree t
 pub record Condition-is (d : code.Draft) (k : ℕ) (t : Condition) : Type 0 where

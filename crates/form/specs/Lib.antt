@@ -7,3 +7,5 @@ pub mod Met
 pub mod Refusals
 pub mod Limits
 pub mod Rewritten
+pub mod Made
+pub mod Place

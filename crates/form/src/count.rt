@@ -9,7 +9,8 @@ ghost use Rattle.psl.specs.declared.entry.Sequence.the-variants.{Condition as I
 ghost use Rattle.psl.specs.declared.entry.Formula.the-variants.{Strong};
 ghost use Rattle.property.specs.Place.{sequences-of, formulas-of};
 ghost use Rattle.form.specs.Pairs.{sequence-adds-conditions, sequence-adds-sequences, formula-adds-conditions, formula-adds-formulas, total};
-ghost use Rattle.form.specs.Limits.{limits};
+ghost use Rattle.form.specs.Limits.{limits, conditions-needed, sequences-needed, formulas-needed};
+ghost use Rattle.form.specs.Met.{marks, met};
 use crate::entries::formula_at;
 use crate::entries::sequence_at;
 use crate::refusal::Refusal;
@@ -95,6 +96,23 @@ pub fn count_formulas(p: &Property, met: &[bool]) -> (usize, usize)
         }
     }
     (conditions, formulas)
+}
+
+// How many entries the form of a property has whose met pairs are marked.
+pub fn count(p: &Property, fm: &[bool], sm: &[bool]) -> Counts
+    requires long { ⌜ (length (now fm) ≡ 4096) × (length (now sm) ≡ 4096) ⌝ }
+    requires met { ⌜ marks (now fm) (now sm) ≡ met (now p) ⌝ }
+    ensures conditions { λ r. ⌜ r .conditions ≡ conditions-needed (now (p .entry)) ⌝ }
+    ensures sequences { λ r. ⌜ r .sequences ≡ sequences-needed (now (p .entry)) ⌝ }
+    ensures formulas { λ r. ⌜ r .formulas ≡ formulas-needed (now (p .entry)) ⌝ }
+{
+    let of_sequences = count_sequences(p, sm);
+    let of_formulas = count_formulas(p, fm);
+    Counts {
+        conditions: p.condition_count() + (of_sequences.0 + of_formulas.0),
+        sequences: of_sequences.1,
+        formulas: of_formulas.1,
+    }
 }
 
 // Whether a form's tables have room for so many entries.

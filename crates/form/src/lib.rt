@@ -6,6 +6,7 @@ pub mod draft;
 mod entries;
 mod mark;
 mod mark_formula;
+pub mod place;
 mod push;
 mod rewrite;
 pub mod refusal;

@@ -44,7 +44,7 @@ module _ (p : Property) where
   rewritten (f.At a d) c = formula-image p a d
 
   module _ (i c : ℕ) (h : i < length (formulas-of p)) where
-    tree-at : getD (formula-trees p) i nothing ≡ formula-of (condition-trees p) (sequence-trees p) (take i (formula-trees p)) (getD (formulas-of p) i (f.Strong 0))
+    pub tree-at : getD (formula-trees p) i nothing ≡ formula-of (condition-trees p) (sequence-trees p) (take i (formula-trees p)) (getD (formulas-of p) i (f.Strong 0))
     unfolding formula-trees formulas
     tree-at = grow-at (formula-of (condition-trees p) (sequence-trees p)) (f.Strong 0) nothing (formulas-of p) i h
 

@@ -10,5 +10,6 @@ pub mod MarkingF
 pub mod Meeting
 pub mod Begun
 pub mod NewForm
+pub mod Origins
 pub mod Made
 pub mod Asked

@@ -30,7 +30,9 @@ use Rattle.form.specs.ImageF.{formula-image}
 use Rattle.form.specs.Limits.{conditions-needed, sequences-needed, formulas-needed}
 use Rattle.form.specs.Made.{answer, same-formula, rewriting, rewrites, as-new, made}
 use Rattle.form.specs.Rewritten.{Rewritten}
+use Rattle.form.specs.Origins.{From-images}
 use Rattle.form.specs.Place.{form-conditions, form-sequences, form-formulas, form-root, source, form-tree, Made-from, Stands, Agrees}
+use Rattle.form.proofs.Origins.{from-images}
 use Rattle.form.proofs.NewForm.{new-agrees}
 
 yes-path : {A : Type 0} (d : Dec A) → answer d ≡ true → A
@@ -139,6 +141,13 @@ module _ (f : Form) where
       (λ is. let new = new-tree is in
         subst (λ t. Unclocked-satisfies t w ↔ Unclocked-satisfies (rewriting (source f)) w) (sym (new .0))
         (subst (λ t. Unclocked-satisfies (weak truth) w ↔ Unclocked-satisfies t w) (sym (new .1)) (new-agrees w)))
+      (parts .1)
+
+  pub comes-from-images : From-images (form-tree f)
+  comes-from-images =
+      ⊎-elim
+      (λ is. subst From-images (sym (from-source is .tree)) (from-images (source f)))
+      (λ is. subst From-images (sym (new-tree is .0)) tt)
       (parts .1)
 
 -- a form whose draft is rewritten from its property

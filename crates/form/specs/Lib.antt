@@ -7,5 +7,6 @@ pub mod Met
 pub mod Refusals
 pub mod Limits
 pub mod Rewritten
+pub mod Origins
 pub mod Made
 pub mod Place

@@ -12,7 +12,8 @@ ghost use Rattle.property.specs.Place.{conditions-of, sequences-of, formulas-of
 ghost use Rattle.form.specs.Draft.{All-named};
 ghost use Rattle.form.specs.Limits.{questions};
 ghost use Rattle.form.specs.Met.{Least-closed, met};
-ghost use Rattle.form.specs.Place.{form-conditions, form-sequences, form-formulas, form-root, source, Made-from, Stands, Agrees};
+ghost use Rattle.form.specs.Origins.{From-images};
+ghost use Rattle.form.specs.Place.{form-conditions, form-sequences, form-formulas, form-root, form-tree, source, Made-from, Stands, Agrees};
 use crate::draft::Draft;
 use crate::place::Form;
 use crate::refusal::Refusal;
@@ -100,6 +101,7 @@ impl Form {
         ensures there { λ r. ⌜ r < length (form-formulas (now (self .entry))) ⌝ }
         ensures stands { λ _. ⌜ Stands (now (self .entry)) ⌝ }
         ensures agrees { λ _. ⌜ Agrees (now (self .entry)) ⌝ }
+        ensures images { λ _. ⌜ From-images (form-tree (now (self .entry))) ⌝ }
     {
         self.root
     }

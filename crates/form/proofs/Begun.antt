@@ -15,9 +15,9 @@ use Rattle.property.specs.Place.{conditions-of, condition-trees}
 use Rattle.property.proofs.Held.{condition-fine}
 use Rattle.form.specs.declared.draft.Draft as code
 use Rattle.form.specs.Draft.{conditions-in, sequences-in, formulas-in, Sound, Condition-is}
-use Rattle.form.specs.Image.{Carries, Fresh}
+use Rattle.form.specs.SequenceImages.{Carries, Fresh}
 use Rattle.form.proofs.Held.{nth-there}
-use Rattle.form.proofs.Meeting.{few-conditions}
+use Rattle.form.proofs.MetPairs.{few-conditions}
 
 none-taken : {E : Type 0} (n k : ℕ) (es : List E) → n ≡ 0 → k < length (take n es) → ⊥
 none-taken n k es is h = omega (arith, length-take-le n es (omega arith))

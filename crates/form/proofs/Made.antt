@@ -26,7 +26,7 @@ use Rattle.property.specs.Place.{conditions-of, sequences-of, formulas-of, cond
 use Rattle.form.specs.declared.draft.Draft as code
 use Rattle.form.specs.declared.place.Form.{Form}
 use Rattle.form.specs.Draft.{conditions-in, sequences-in, formulas-in, formula-in, Sound, All-named}
-use Rattle.form.specs.ImageF.{formula-image}
+use Rattle.form.specs.FormulaImages.{formula-image}
 use Rattle.form.specs.Limits.{conditions-needed, sequences-needed, formulas-needed}
 use Rattle.form.specs.Made.{answer, same-formula, rewriting, rewrites, as-new, made}
 use Rattle.form.specs.Rewritten.{Rewritten}

@@ -25,8 +25,8 @@ use Rattle.property.proofs.Trees.{sizes-of-trees}
 use Rattle.form.specs.Origins.{Small-image, From-images, Sized}
 use Rattle.form.specs.Made.{rewriting}
 use Rattle.form.proofs.Held.{held-formula}
-use Rattle.form.proofs.Meeting.{some-formulas}
-use Rattle.form.proofs.ImagesF.{tree-at}
+use Rattle.form.proofs.MetPairs.{some-formulas}
+use Rattle.form.proofs.FormulaImages.{tree-at}
 
 -- the image of a formula whose sequences are small
 pub images : (c : Condition) (f : Formula) → Sized f → From-images (unclock c f)

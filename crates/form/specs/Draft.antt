@@ -20,12 +20,15 @@ use Rattle.form.specs.declared.draft.Draft as code
 abbrev pub on-tick : Condition → Formula → Formula
 on-tick c f = after-waiting c (conjoined (strong c) f)
 
+-- the conditions that a draft has
 abbrev pub conditions-in : code.Draft → List entryC.Condition
 conditions-in d = take (d .counts .conditions) (d .conditions)
 
+-- the sequences that a draft has
 abbrev pub sequences-in : code.Draft → List entryS.Sequence
 sequences-in d = take (d .counts .sequences) (d .sequences)
 
+-- the formulas that a draft has
 abbrev pub formulas-in : code.Draft → List entryF.Formula
 formulas-in d = take (d .counts .formulas) (d .formulas)
 
@@ -33,12 +36,15 @@ formulas-in d = take (d .counts .formulas) (d .formulas)
 abbrev pub All-named : {E : Type 0} → (ℕ → E → Bool) → E → List E → Type 0
 All-named names first es = (k : ℕ) → k < length es → names k (getD es k first) ≡ true
 
+-- each condition of the draft names what it may
 abbrev pub Conditions-named : code.Draft → Type 0
 Conditions-named d = All-named condition-names True (conditions-in d)
 
+-- each sequence of the draft names what it may
 abbrev pub Sequences-named : code.Draft → Type 0
 Sequences-named d = All-named (sequence-names (length (conditions-in d))) (Is 0) (sequences-in d)
 
+-- each formula of the draft names what it may
 abbrev pub Formulas-named : code.Draft → Type 0
 Formulas-named d = All-named (formula-names (length (conditions-in d)) (length (sequences-in d))) (Strong 0) (formulas-in d)
 
@@ -67,10 +73,12 @@ pub record Condition-is (d : code.Draft) (k : ℕ) (t : Condition) : Type 0 wher
   pub there : k < length (conditions-in d)
   pub is : getD (conditions (conditions-in d)) k falsity ≡ t
 
+-- sequence entry k is the tree t
 pub record Sequence-is (d : code.Draft) (k : ℕ) (t : Sequence) : Type 0 where
   pub there : k < length (sequences-in d)
   pub is : getD (sequences (conditions (conditions-in d)) (sequences-in d)) k empty ≡ t
 
+-- formula entry k is the tree t
 pub record Formula-is (d : code.Draft) (k : ℕ) (t : Formula) : Type 0 where
   pub there : k < length (formulas-in d)
   pub is : getD (formulas (conditions (conditions-in d)) (sequences (conditions (conditions-in d)) (sequences-in d)) (formulas-in d)) k nothing ≡ t
@@ -120,9 +128,11 @@ pub record Built (d e : code.Draft) (t : Formula) (r nc nf : ℕ) : Type 0 where
   pub count-s : e .counts .sequences ≡ d .counts .sequences
   pub count-f : e .counts .formulas ≡ d .counts .formulas + nf
 
+-- the tree of condition k
 abbrev pub condition-in : code.Draft → ℕ → Condition
 condition-in d k = getD (conditions (conditions-in d)) k falsity
 
+-- the tree of formula k
 abbrev pub formula-in : code.Draft → ℕ → Formula
 formula-in d k = getD (formulas (conditions (conditions-in d)) (sequences (conditions (conditions-in d)) (sequences-in d)) (formulas-in d)) k nothing
 

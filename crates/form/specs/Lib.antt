@@ -1,8 +1,8 @@
 pub mod Entries
 pub mod Draft
 pub mod Pairs
-pub mod Image
-pub mod ImageF
+pub mod SequenceImages
+pub mod FormulaImages
 pub mod Met
 pub mod Refusals
 pub mod Limits

@@ -11,8 +11,8 @@ use Rattle.psl.specs.declared.entry.Formula.the-variants as f
 use Rattle.property.specs.declared.place.Property.{Property}
 use Rattle.property.specs.Place.{conditions-of, sequences-of, formulas-of}
 use Rattle.form.specs.Pairs.{key}
-use Rattle.form.specs.Image.{Marked, Sequences-closed}
-use Rattle.form.specs.ImageF.{Formulas-closed}
+use Rattle.form.specs.SequenceImages.{Marked, Sequences-closed}
+use Rattle.form.specs.FormulaImages.{Formulas-closed}
 
 -- the marks with those of an entry's operands, under clock c
 abbrev pub with-operands : entryS.Sequence → ℕ → List Bool → List Bool
@@ -58,6 +58,7 @@ pub record Marks : Type 0 where
   pub formulas : List Bool
   pub sequences : List Bool
 
+-- marks as one
 abbrev pub marks : List Bool → List Bool → Marks
 marks fm sm = record { formulas = fm; sequences = sm }
 

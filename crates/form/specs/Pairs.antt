@@ -9,10 +9,11 @@ use Rattle.psl.specs.declared.entry.Sequence.the-variants as s
 use Rattle.psl.specs.declared.entry.Formula as entryF
 use Rattle.psl.specs.declared.entry.Formula.the-variants as f
 
+-- the key of entry i under clock c
 abbrev pub key : ℕ → ℕ → ℕ
 key i c = 64 * i + c
 
--- what a met sequence adds
+-- the conditions that a met sequence adds
 abbrev pub sequence-adds-conditions : entryS.Sequence → ℕ
 sequence-adds-conditions (s.Condition a) = 2
 sequence-adds-conditions (s.Concat a b) = 0
@@ -23,6 +24,7 @@ sequence-adds-conditions s.Empty = 0
 sequence-adds-conditions (s.Star a) = 0
 sequence-adds-conditions (s.At a d) = 0
 
+-- the sequences that a met sequence adds
 abbrev pub sequence-adds-sequences : entryS.Sequence → ℕ
 sequence-adds-sequences (s.Condition a) = 4
 sequence-adds-sequences (s.Concat a b) = 1
@@ -33,7 +35,7 @@ sequence-adds-sequences s.Empty = 1
 sequence-adds-sequences (s.Star a) = 1
 sequence-adds-sequences (s.At a d) = 0
 
--- what a met formula adds
+-- the conditions that a met formula adds
 abbrev pub formula-adds-conditions : entryF.Formula → ℕ
 formula-adds-conditions (f.Strong a) = 2
 formula-adds-conditions (f.Weak a) = 3
@@ -47,6 +49,7 @@ formula-adds-conditions (f.Abort a b) = 0
 formula-adds-conditions (f.Implies a b) = 0
 formula-adds-conditions (f.At a d) = 0
 
+-- the formulas that a met formula adds
 abbrev pub formula-adds-formulas : entryF.Formula → ℕ
 formula-adds-formulas (f.Strong a) = 3
 formula-adds-formulas (f.Weak a) = 4

@@ -24,12 +24,15 @@ use Rattle.form.specs.Draft.{conditions-in, sequences-in, formulas-in}
 use Rattle.form.specs.Limits.{conditions-needed, sequences-needed, formulas-needed}
 use Rattle.form.specs.Made.{rewriting}
 
+-- the form's conditions
 unfoldable pub form-conditions : Form → List Condition
 form-conditions f = conditions-in (f .draft)
 
+-- the form's sequences
 unfoldable pub form-sequences : Form → List Sequence
 form-sequences f = sequences-in (f .draft)
 
+-- the form's formulas
 unfoldable pub form-formulas : Form → List Formula
 form-formulas f = formulas-in (f .draft)
 

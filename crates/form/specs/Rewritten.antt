@@ -8,7 +8,7 @@ use Rattle.property.specs.declared.place.Property.{Property}
 use Rattle.property.specs.Place.{formulas-of}
 use Rattle.form.specs.declared.draft.Draft as code
 use Rattle.form.specs.Draft.{Sound, Formula-is}
-use Rattle.form.specs.ImageF.{formula-image}
+use Rattle.form.specs.FormulaImages.{formula-image}
 use Rattle.form.specs.Limits.{conditions-needed, sequences-needed, formulas-needed, questions}
 
 -- there is room for all that the property needs

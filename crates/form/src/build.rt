@@ -1,3 +1,4 @@
+// The rewritings of b!, b, X! f and f U g, whose parts are shared within a pair.
 ghost use mathlib.Core.Path.{_≡_};
 ghost use Prim.Native.Nat.{ℕ, _+_, _*_, _<_, _≤_};
 ghost use lib.ListN.{length, getD, take};

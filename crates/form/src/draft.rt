@@ -1,9 +1,10 @@
+// The tables of a form.
 use file::tables::Counts;
 use psl::entry::Condition;
 use psl::entry::Formula;
 use psl::entry::Sequence;
 
-// The tables of a form.
+// A form in the making, with how many rows of each table are in use.
 #[derive(Clone, Copy)]
 pub struct Draft {
     pub counts: Counts,

@@ -1,3 +1,4 @@
+// The images of the met pairs of sequences.
 ghost use mathlib.Core.Path.{_≡_};
 ghost use mathlib.Core.Bool.{true};
 ghost use Prim.Native.Nat.{ℕ, _+_, _*_, _<_, _≤_};
@@ -6,7 +7,7 @@ ghost use Rattle.psl.specs.declared.entry.Sequence.the-variants.{Condition as I
 ghost use Rattle.property.specs.Place.{conditions-of, sequences-of};
 ghost use Rattle.form.specs.Draft.{Sound, Grows};
 ghost use Rattle.form.specs.Pairs.{sequence-adds-conditions, sequence-adds-sequences, total};
-ghost use Rattle.form.specs.Image.{Carries, For-operands, Sequence-placed, Wrote-sequence, Sequences-closed, Sequences-stand};
+ghost use Rattle.form.specs.SequenceImages.{Carries, For-operands, Sequence-placed, Wrote-sequence, Sequences-closed, Sequences-stand};
 use crate::draft::Draft;
 use crate::push::add_sequence;
 use crate::push::tick;

@@ -4,7 +4,7 @@ use lib.ListN.{length}
 use native.Mathlib.Omega.{arith}
 use Rattle.property.specs.Place.{sequences-of}
 use Rattle.form.specs.Met.{meet-sequences}
-use Rattle.form.proofs.Marking.{meet-yes, meet-no, meet-all}
+use Rattle.form.proofs.SequenceMarks.{meet-yes, meet-no, meet-all}
 use Rattle.form.proofs.mark.mark_sequences.Needs as need
 
 pub loop-k-again-then-met-k : need.loop-k-again-then-met-k

@@ -4,7 +4,7 @@ use lib.ListN.{length}
 use native.Mathlib.Omega.{arith}
 use Rattle.property.specs.Place.{formulas-of}
 use Rattle.form.specs.Met.{marks, meet-formulas}
-use Rattle.form.proofs.MarkingF.{meet-yes, meet-no, meet-all}
+use Rattle.form.proofs.FormulaMarks.{meet-yes, meet-no, meet-all}
 use Rattle.form.proofs.mark_formula.mark_formulas.Needs as need
 
 pub loop-k-again-then-fm-k : need.loop-k-again-then-fm-k

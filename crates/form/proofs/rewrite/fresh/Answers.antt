@@ -3,7 +3,7 @@ use borrow.Author.Needs.{needs}
 use native.Mathlib.Omega.{arith}
 use lib.ListN.{length, take}
 use Rattle.property.specs.Place.{conditions-of}
-use Rattle.form.proofs.Meeting.{few-conditions}
+use Rattle.form.proofs.MetPairs.{few-conditions}
 use Rattle.form.proofs.Begun.{fresh-is}
 use Rattle.form.proofs.rewrite.fresh.Needs as need
 

@@ -8,11 +8,11 @@ use Rattle.psl.specs.declared.entry.Formula.the-variants as f
 use Rattle.property.specs.Place.{sequences-of, formulas-of}
 use Rattle.form.specs.Pairs.{total, key, sequence-adds-conditions, sequence-adds-sequences, formula-adds-conditions, formula-adds-formulas}
 use Rattle.form.specs.Draft.{Formula-is}
-use Rattle.form.specs.Image.{Sequences-closed, Marked}
-use Rattle.form.specs.ImageF.{Formulas-closed, formula-image}
+use Rattle.form.specs.SequenceImages.{Sequences-closed, Marked}
+use Rattle.form.specs.FormulaImages.{Formulas-closed, formula-image}
 use Rattle.form.specs.Met.{met}
 use Rattle.form.specs.Limits.{conditions-needed, sequences-needed, formulas-needed}
-use Rattle.form.proofs.Meeting.{met-least, some-formulas, few-formulas}
+use Rattle.form.proofs.MetPairs.{met-least, some-formulas, few-formulas}
 use Rattle.form.proofs.rewrite.rewrite.Needs as need
 
 pub write-sequences-requires : need.write-sequences-requires

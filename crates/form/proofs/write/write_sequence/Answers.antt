@@ -9,10 +9,10 @@ use Rattle.psl.specs.Removal.{unclock-sequence}
 use Rattle.psl.specs.declared.entry.Sequence.the-variants as s
 use Rattle.property.specs.Place.{sequences-of}
 use Rattle.form.specs.Draft.{Sequence-is}
-use Rattle.form.specs.Image.{sequence-image}
+use Rattle.form.specs.SequenceImages.{sequence-image}
 use Rattle.form.specs.Pairs.{sequence-adds-conditions, sequence-adds-sequences}
 use Rattle.form.proofs.Grown.{grows-none, sequence-as}
-use Rattle.form.proofs.Images.{wrote, ready-at, operand, image-is}
+use Rattle.form.proofs.SequenceImages.{wrote, ready-at, operand, image-is}
 use Rattle.form.proofs.write.write_sequence.Needs as need
 
 pub tick-requires : need.tick-requires

@@ -5,9 +5,9 @@ use lib.ListN.{getD, length}
 use borrow.Author.Needs.{needs}
 use native.Mathlib.Omega.{arith}
 use Rattle.property.specs.Place.{sequences-of}
-use Rattle.form.specs.Image.{Sequences-stand}
+use Rattle.form.specs.SequenceImages.{Sequences-stand}
 use Rattle.form.proofs.Grown.{grows-none}
-use Rattle.form.proofs.Steps.{step-yes, step-no, ready-here, room-here, inside}
+use Rattle.form.proofs.SequenceSteps.{step-yes, step-no, ready-here, room-here, inside}
 use Rattle.form.proofs.write.write_sequences.Needs as need
 use Rattle.form.proofs.write.write_sequences.Needs.{then-met-k, else-met-k}
 

@@ -1,6 +1,6 @@
 use borrow.Author.Needs.{needs}
 use Rattle.form.proofs.Made.{rewritten-made, from-rewritten}
-use Rattle.form.proofs.Meeting.{met-least}
+use Rattle.form.proofs.MetPairs.{met-least}
 use Rattle.form.proofs.place.Form.remove_clocks.Needs as need
 
 pub ghost-self : need.ghost-self

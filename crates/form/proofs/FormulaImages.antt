@@ -21,8 +21,8 @@ use Rattle.property.specs.Place.{conditions-of, sequences-of, formulas-of, cond
 use Rattle.form.specs.Entries.{Formula-at}
 use Rattle.form.specs.declared.draft.Draft as code
 use Rattle.form.specs.Draft.{conditions-in, sequences-in, formulas-in, Formula-is, Added-formula, Built, formula-in, Grows, Sound}
-use Rattle.form.specs.Image.{sequence-image, Sequence-placed}
-use Rattle.form.specs.ImageF.{formula-image, For-parts, Formula-placed, Wrote-formula}
+use Rattle.form.specs.SequenceImages.{sequence-image, Sequence-placed}
+use Rattle.form.specs.FormulaImages.{formula-image, For-parts, Formula-placed, Wrote-formula}
 use Rattle.form.specs.Pairs.{formula-adds-conditions, formula-adds-formulas}
 use Rattle.form.proofs.Grown.{formula-as}
 

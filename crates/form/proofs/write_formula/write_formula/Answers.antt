@@ -11,12 +11,12 @@ use Rattle.psl.specs.Removal.{unclock}
 use Rattle.form.specs.Draft.{on-tick}
 use Rattle.psl.specs.declared.entry.Formula.the-variants as f
 use Rattle.form.specs.Draft.{Formula-is, formulas-in}
-use Rattle.form.specs.ImageF.{formula-image}
+use Rattle.form.specs.FormulaImages.{formula-image}
 use Rattle.form.specs.Pairs.{formula-adds-conditions, formula-adds-formulas}
 use Rattle.form.proofs.Grown.{grows-none, formula-as}
-use Rattle.form.proofs.Images.{operandS}
-use Rattle.form.proofs.ImagesF.{wrote, built, ready-at, part, image-is}
-use Rattle.form.proofs.compose.write_formula.Needs as need
+use Rattle.form.proofs.SequenceImages.{operandS}
+use Rattle.form.proofs.FormulaImages.{wrote, built, ready-at, part, image-is}
+use Rattle.form.proofs.write_formula.write_formula.Needs as need
 
 until-same : {t u : Condition} {x y v w : Formula} → t ≡ u → x ≡ y → v ≡ w
     → until (negated (conjoined (strong t) (negated x))) (conjoined (strong t) v) ≡ until (negated (conjoined (strong u) (negated y))) (conjoined (strong u) w)

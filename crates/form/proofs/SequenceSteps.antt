@@ -19,7 +19,7 @@ use Rattle.form.proofs.Held.{held-sequence}
 use Rattle.form.specs.declared.draft.Draft as code
 use Rattle.form.specs.Draft.{Condition-is, Sequence-is, Grows, Sound}
 use Rattle.form.specs.Pairs.{key, sequence-adds-conditions, sequence-adds-sequences, total}
-use Rattle.form.specs.Image.{sequence-image, Carries, For-operands, Sequence-placed, Wrote-sequence, Marked, Sequences-closed, Sequences-written, Sequences-stand}
+use Rattle.form.specs.SequenceImages.{sequence-image, Carries, For-operands, Sequence-placed, Wrote-sequence, Marked, Sequences-closed, Sequences-written, Sequences-stand}
 use Rattle.form.proofs.Totals.{total-mono, total-yes, total-no}
 use Rattle.form.proofs.Grown.{keep-condition, keep-sequence, grows-twice}
 

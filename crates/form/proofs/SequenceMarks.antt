@@ -17,9 +17,9 @@ use Rattle.property.specs.declared.place.Property.{Property}
 use Rattle.property.specs.Place.{conditions-of, sequences-of}
 use Rattle.form.proofs.Held.{held-sequence}
 use Rattle.form.specs.Pairs.{key}
-use Rattle.form.specs.Image.{For-operands, Marked, Sequences-closed}
+use Rattle.form.specs.SequenceImages.{For-operands, Marked, Sequences-closed}
 use Rattle.form.specs.Met.{with-operands, meet-sequences, Within, Clocks}
-use Rattle.form.proofs.Steps.{for-operands, whole, inside, clock-small, entry-of, clock-of}
+use Rattle.form.proofs.SequenceSteps.{for-operands, whole, inside, clock-small, entry-of, clock-of}
 
 -- a mark that is put
 pub put-same : (met : List Bool) (m : ℕ) → m < length met → getD (set met m true) m false ≡ true

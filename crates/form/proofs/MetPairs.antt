@@ -12,13 +12,13 @@ use Rattle.property.specs.Place.{conditions-of, sequences-of, formulas-of}
 use Rattle.property.proofs.Held.{within, conditions-counted, sequences-counted, formulas-counted}
 use Rattle.form.proofs.Held.{held-formula}
 use Rattle.form.specs.Pairs.{key}
-use Rattle.form.specs.Image.{Marked, Sequences-closed}
-use Rattle.form.specs.ImageF.{Formulas-closed}
+use Rattle.form.specs.SequenceImages.{Marked, Sequences-closed}
+use Rattle.form.specs.FormulaImages.{Formulas-closed}
 use Rattle.form.specs.Met.{Marks, unmarked, root-marked, formulas-met, met, meet-sequences, meet-formulas, Within, Clocks, Closed, Least-closed}
-use Rattle.form.proofs.StepsF.{for-parts}
-use Rattle.form.proofs.Marking as sequence
-use Rattle.form.proofs.Marking.{put-same, put-only}
-use Rattle.form.proofs.MarkingF as formula
+use Rattle.form.proofs.FormulaSteps.{for-parts}
+use Rattle.form.proofs.SequenceMarks as sequence
+use Rattle.form.proofs.SequenceMarks.{put-same, put-only}
+use Rattle.form.proofs.FormulaMarks as formula
 
 replicate-at : (n k : ℕ) → getD (replicate n false) k false ≡ false
 replicate-at zero k = refl

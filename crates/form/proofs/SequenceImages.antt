@@ -21,7 +21,7 @@ use Rattle.form.specs.Entries.{Sequence-at}
 use Rattle.form.specs.declared.draft.Draft as code
 use Rattle.form.specs.Draft.{conditions-in, sequences-in, Condition-is, Sequence-is, Added-sequence, Grows, Sound}
 use Rattle.form.specs.Pairs.{sequence-adds-conditions, sequence-adds-sequences}
-use Rattle.form.specs.Image.{sequence-image, Carries, For-operands, Sequence-placed, Wrote-sequence}
+use Rattle.form.specs.SequenceImages.{sequence-image, Carries, For-operands, Sequence-placed, Wrote-sequence}
 use Rattle.form.proofs.Grown.{sequence-as}
 
 module _ (p : Property) where

@@ -16,13 +16,13 @@ use Rattle.property.specs.declared.place.Property.{Property}
 use Rattle.property.specs.Place.{conditions-of, sequences-of, formulas-of}
 use Rattle.form.proofs.Held.{held-formula}
 use Rattle.form.specs.Pairs.{key}
-use Rattle.form.specs.Image.{Marked}
-use Rattle.form.specs.ImageF.{For-parts, Formulas-closed}
+use Rattle.form.specs.SequenceImages.{Marked}
+use Rattle.form.specs.FormulaImages.{For-parts, Formulas-closed}
 use Rattle.form.specs.Met as marks
 use Rattle.form.specs.Met.{with-formulas, with-sequences, with-parts, meet-formulas, Within, Clocks}
-use Rattle.form.proofs.Steps.{whole, inside, clock-small, entry-of, clock-of}
-use Rattle.form.proofs.StepsF.{for-parts}
-use Rattle.form.proofs.Marking.{put-same, put-keeps, put-only, meets-one}
+use Rattle.form.proofs.SequenceSteps.{whole, inside, clock-small, entry-of, clock-of}
+use Rattle.form.proofs.FormulaSteps.{for-parts}
+use Rattle.form.proofs.SequenceMarks.{put-same, put-keeps, put-only, meets-one}
 
 abbrev None : ℕ → ℕ → Type 0
 None a b = Unit {0}

@@ -1,4 +1,4 @@
--- The pass over the pairs of sequences and clocks.
+-- The pass over the pairs of formulas and clocks.
 use mathlib.Core.Bool.{Bool, true, false, _&&_} 
 use mathlib.Core.List.{List, [], _∷_, _++_}
 use mathlib.Core.Logic.{_⊎_, inl, inr, ⊎-elim, _≢_}
@@ -19,11 +19,11 @@ use Rattle.form.proofs.Held.{held-formula}
 use Rattle.form.specs.declared.draft.Draft as code
 use Rattle.form.specs.Draft.{Condition-is, Sequence-is, Formula-is, Grows, Sound, Room}
 use Rattle.form.specs.Pairs.{key, formula-adds-conditions, formula-adds-formulas, total}
-use Rattle.form.specs.Image.{sequence-image, Carries, Sequence-placed, Marked, Sequences-written}
-use Rattle.form.specs.ImageF.{formula-image, For-parts, Formula-placed, Wrote-formula, Formulas-closed, Formulas-written, Formulas-stand}
+use Rattle.form.specs.SequenceImages.{sequence-image, Carries, Sequence-placed, Marked, Sequences-written}
+use Rattle.form.specs.FormulaImages.{formula-image, For-parts, Formula-placed, Wrote-formula, Formulas-closed, Formulas-written, Formulas-stand}
 use Rattle.form.proofs.Totals.{total-mono, total-yes, total-no}
 use Rattle.form.proofs.Grown.{keep-condition, keep-sequence, keep-formula, grows-twice}
-use Rattle.form.proofs.Steps.{whole, inside, clock-small, entry-of, clock-of}
+use Rattle.form.proofs.SequenceSteps.{whole, inside, clock-small, entry-of, clock-of}
 
 -- what holds of the parts' pairs: formulas are lower, sequences are there
 pub for-parts : (P Q R S : ℕ → ℕ → Type 0) (n m i c : ℕ) (e : entryF.Formula) → n ≤ 64 → c < 64 → formula-names n m i e ≡ true

@@ -1,11 +1,12 @@
+// The images of the met pairs of formulas.
 ghost use mathlib.Core.Path.{_≡_};
 ghost use Prim.Native.Nat.{ℕ, _+_, _*_, _<_, _≤_};
 ghost use lib.ListN.{length, getD};
 ghost use Rattle.psl.specs.declared.entry.Formula.the-variants.{Strong};
 ghost use Rattle.property.specs.Place.{conditions-of, sequences-of, formulas-of};
 ghost use Rattle.form.specs.Draft.{Sound, Room};
-ghost use Rattle.form.specs.Image.{Carries, Sequence-placed, Sequences-written};
-ghost use Rattle.form.specs.ImageF.{For-parts, Formula-placed, Wrote-formula, Formulas-closed, Formulas-stand};
+ghost use Rattle.form.specs.SequenceImages.{Carries, Sequence-placed, Sequences-written};
+ghost use Rattle.form.specs.FormulaImages.{For-parts, Formula-placed, Wrote-formula, Formulas-closed, Formulas-stand};
 ghost use Rattle.form.specs.Pairs.{formula-adds-conditions, formula-adds-formulas, total};
 use crate::build::add_next;
 use crate::build::add_strong;

@@ -5,12 +5,12 @@ use lib.ListN.{getD, length}
 use borrow.Author.Needs.{needs}
 use native.Mathlib.Omega.{arith}
 use Rattle.property.specs.Place.{sequences-of, formulas-of}
-use Rattle.form.specs.ImageF.{Formulas-stand}
+use Rattle.form.specs.FormulaImages.{Formulas-stand}
 use Rattle.form.proofs.Grown.{grows-none}
-use Rattle.form.proofs.Steps.{inside}
-use Rattle.form.proofs.StepsF.{step-yes, step-no, ready-here, room-here}
-use Rattle.form.proofs.compose.write_formulas.Needs as need
-use Rattle.form.proofs.compose.write_formulas.Needs.{then-fm-k, else-fm-k}
+use Rattle.form.proofs.SequenceSteps.{inside}
+use Rattle.form.proofs.FormulaSteps.{step-yes, step-no, ready-here, room-here}
+use Rattle.form.proofs.write_formula.write_formulas.Needs as need
+use Rattle.form.proofs.write_formula.write_formulas.Needs.{then-fm-k, else-fm-k}
 
 pub loop-k-holds : need.loop-k-holds
 loop-k-holds c =

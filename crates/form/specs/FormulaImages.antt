@@ -14,8 +14,9 @@ use Rattle.property.specs.Place.{formulas-of, sequences-of, conditions-of, cond
 use Rattle.form.specs.declared.draft.Draft as code
 use Rattle.form.specs.Draft.{Formula-is, Sound, Grows}
 use Rattle.form.specs.Pairs.{key, formula-adds-conditions, formula-adds-formulas, total}
-use Rattle.form.specs.Image.{Marked, Carries, Sequences-written}
+use Rattle.form.specs.SequenceImages.{Marked, Carries, Sequences-written}
 
+-- what clock removal makes of formula i under clock c
 abbrev pub formula-image : Property → ℕ → ℕ → Formula
 formula-image p i c = unclock (getD (condition-trees p) c falsity) (getD (formula-trees p) i nothing)
 
@@ -33,9 +34,11 @@ For-parts P R (f.Abort a b) c = P a c
 For-parts P R (f.Implies a b) c = R a c × P b c
 For-parts P R (f.At a d) c = P a d
 
+-- the draft has the image of a pair of a formula where the places say
 abbrev pub Formula-placed : Property → code.Draft → List ℕ → ℕ → ℕ → Type 0
 Formula-placed p d places i c = Formula-is d (getD places (key i c) 0) (formula-image p i c)
 
+-- the image of formula i under clock c was added, as number r
 pub record Wrote-formula (p : Property) (i c : ℕ) (d e : code.Draft) (r : ℕ) : Type 0 where
   pub sound : Sound e
   pub grows : Grows d e
@@ -50,6 +53,7 @@ Formulas-closed p fm sm =
     (i c : ℕ) → i < length (formulas-of p) → c < 64 → Marked fm i c
     → (c < length (conditions-of p)) × For-parts (Marked fm) (Marked sm) (getD (formulas-of p) i (f.Strong 0)) c
 
+-- each marked pair of a formula below key n has its image
 abbrev pub Formulas-written : Property → List Bool → code.Draft → List ℕ → ℕ → Type 0
 Formulas-written p met d places n = (i c : ℕ) → c < 64 → key i c < n → Marked met i c → Formula-placed p d places i c
 

@@ -1,0 +1,15 @@
+pub mod Held
+pub mod Grown
+pub mod Totals
+pub mod SequenceImages
+pub mod SequenceSteps
+pub mod SequenceMarks
+pub mod FormulaImages
+pub mod FormulaSteps
+pub mod FormulaMarks
+pub mod MetPairs
+pub mod Begun
+pub mod NewForm
+pub mod Origins
+pub mod Made
+pub mod Asked

@@ -1,0 +1,12 @@
+pub mod Entries
+pub mod Draft
+pub mod Pairs
+pub mod SequenceImages
+pub mod FormulaImages
+pub mod Met
+pub mod Refusals
+pub mod Limits
+pub mod Rewritten
+pub mod Origins
+pub mod Made
+pub mod Place

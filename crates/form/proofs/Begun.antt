@@ -34,20 +34,20 @@ module _ (p : Property) (d : code.Draft) (same : conditions-in d ≡ conditions-
 
   pub fresh-is : length (d .conditions) ≡ 256 → length (d .sequences) ≡ 256 → length (d .formulas) ≡ 256 → d .counts .sequences ≡ 0 → d .counts .formulas ≡ 0 → Fresh p d
   fresh-is long-c long-s long-f none-s none-f =
-      record
-      { sound = record
-        { long-c = long-c
-        ; long-s = long-s
-        ; long-f = long-f
-        ; few-c = omega (arith, few-conditions p)
-        ; few-s = omega arith
-        ; few-f = omega arith
-        ; names-c = condition-named
-        ; names = λ k h. absurd (none-taken _ k (d .sequences) none-s h)
-        ; names-f = λ k h. absurd (none-taken _ k (d .formulas) none-f h)
-        }
-      ; carries = carried
-      ; count-c = count
-      ; count-s = none-s
-      ; count-f = none-f
+      record {
+        sound = record {
+          long-c = long-c;
+          long-s = long-s;
+          long-f = long-f;
+          few-c = omega (arith, few-conditions p);
+          few-s = omega arith;
+          few-f = omega arith;
+          names-c = condition-named;
+          names = λ k h. absurd (none-taken _ k (d .sequences) none-s h);
+          names-f = λ k h. absurd (none-taken _ k (d .formulas) none-f h);
+        };
+        carries = carried;
+        count-c = count;
+        count-s = none-s;
+        count-f = none-f;
       }

@@ -80,24 +80,24 @@ module _ (p : Property) where
       pub wrote : (x : entryF.Formula) (r : ℕ) → Added-formula d d′ x r → formula-of (conditions (conditions-in d)) (sequences (conditions (conditions-in d)) (sequences-in d)) (formulas (conditions (conditions-in d)) (sequences (conditions (conditions-in d)) (sequences-in d)) (formulas-in d)) x ≡ rewritten e c
           → formula-adds-conditions e ≡ 0 → formula-adds-formulas e ≡ 1 → Wrote-formula p i c d d′ r
       wrote x r new same zero-c one-f =
-          record
-          { sound = new .sound
-          ; grows = new .grows
-          ; is = formula-as (same ∙ sym (image-is e told)) (new .is)
-          ; count-c = omega (arith, new .count-c, zero-c, ap formula-adds-conditions (told .is))
-          ; count-s = new .count-s
-          ; count-f = omega (arith, new .count-f, one-f, ap formula-adds-formulas (told .is))
+          record {
+            sound = new .sound;
+            grows = new .grows;
+            is = formula-as (same ∙ sym (image-is e told)) (new .is);
+            count-c = omega (arith, new .count-c, zero-c, ap formula-adds-conditions (told .is));
+            count-s = new .count-s;
+            count-f = omega (arith, new .count-f, one-f, ap formula-adds-formulas (told .is));
           }
 
       pub built : (t : Formula) (r nc nf : ℕ) → Built d d′ t r nc nf → t ≡ rewritten e c → formula-adds-conditions e ≡ nc → formula-adds-formulas e ≡ nf → Wrote-formula p i c d d′ r
       built t r nc nf new same is-c is-f =
-          record
-          { sound = new .sound
-          ; grows = new .grows
-          ; is = formula-as (same ∙ sym (image-is e told)) (new .is)
-          ; count-c = omega (arith, new .count-c, is-c, ap formula-adds-conditions (told .is))
-          ; count-s = new .count-s
-          ; count-f = omega (arith, new .count-f, is-f, ap formula-adds-formulas (told .is))
+          record {
+            sound = new .sound;
+            grows = new .grows;
+            is = formula-as (same ∙ sym (image-is e told)) (new .is);
+            count-c = omega (arith, new .count-c, is-c, ap formula-adds-conditions (told .is));
+            count-s = new .count-s;
+            count-f = omega (arith, new .count-f, is-f, ap formula-adds-formulas (told .is));
           }
 
   pub part : (d : code.Draft) (places : List ℕ) (k a b : ℕ) → k ≡ getD places (64 * a + b) 0 → Formula-placed p d places a b → formula-in d k ≡ formula-image p a b

@@ -41,12 +41,12 @@ none G top met x = record { long = refl; kept = λ k m. m; done = x; upper = λ 
 one : (G : (ℕ → ℕ → Type 0) → Type 0) (top : ℕ) (met : List Bool) (a b : ℕ) → key a b < top → b < 64 → key a b < length met
     → ((P : ℕ → ℕ → Type 0) → P a b → G P) → ((Q : ℕ → ℕ → Type 0) → G Q → Q a b) → Put G top met (set met (key a b) true)
 one G top met a b l m h x g =
-    record
-    { long = length-set met (key a b) true
-    ; kept = λ k y. put-keeps met (key a b) k h y
-    ; done = x (Marked _) (put-same met (key a b) h)
-    ; upper = λ k u y. ⊎-elim (λ is. let z : ⊥ = omega arith in absurd z) (λ w. w) (put-only met (key a b) k h y)
-    ; only = λ Q q k y. ⊎-elim (λ is. inr (a, b, m, is, g Q q)) (λ w. inl w) (put-only met (key a b) k h y)
+    record {
+      long = length-set met (key a b) true;
+      kept = λ k y. put-keeps met (key a b) k h y;
+      done = x (Marked _) (put-same met (key a b) h);
+      upper = λ k u y. ⊎-elim (λ is. let z : ⊥ = omega arith in absurd z) (λ w. w) (put-only met (key a b) k h y);
+      only = λ Q q k y. ⊎-elim (λ is. inr (a, b, m, is, g Q q)) (λ w. inl w) (put-only met (key a b) k h y);
     }
 
 two : (G : (ℕ → ℕ → Type 0) → Type 0) (top : ℕ) (met : List Bool) (a b c : ℕ) → key a c < top → key b c < top → c < 64 → key a c < length met → key b c < length met
@@ -55,16 +55,16 @@ two : (G : (ℕ → ℕ → Type 0) → Type 0) (top : ℕ) (met : List Bool) (a
 two G top met a b c la lb m ha hb x g =
     let long : length (set met (key a c) true) ≡ length met = length-set met (key a c) true in
     let hb′ : key b c < length (set met (key a c) true) = omega arith in
-    record
-    { long = length-set (set met (key a c) true) (key b c) true ∙ long
-    ; kept = λ k y. put-keeps _ (key b c) k hb′ (put-keeps met (key a c) k ha y)
-    ; done = x (Marked _) (put-keeps _ (key b c) (key a c) hb′ (put-same met (key a c) ha)) (put-same _ (key b c) hb′)
-    ; upper = λ k u y.
-        ⊎-elim (λ is. let z : ⊥ = omega arith in absurd z)
-        (λ w. ⊎-elim (λ is. let z : ⊥ = omega arith in absurd z) (λ v. v) (put-only met (key a c) k ha w)) (put-only _ (key b c) k hb′ y)
-    ; only = λ Q q k y.
-        ⊎-elim (λ is. inr (b, c, m, is, g Q q .1))
-        (λ w. ⊎-elim (λ is. inr (a, c, m, is, g Q q .0)) (λ v. inl v) (put-only met (key a c) k ha w)) (put-only _ (key b c) k hb′ y)
+    record {
+      long = length-set (set met (key a c) true) (key b c) true ∙ long;
+      kept = λ k y. put-keeps _ (key b c) k hb′ (put-keeps met (key a c) k ha y);
+      done = x (Marked _) (put-keeps _ (key b c) (key a c) hb′ (put-same met (key a c) ha)) (put-same _ (key b c) hb′);
+      upper = λ k u y.
+          ⊎-elim (λ is. let z : ⊥ = omega arith in absurd z)
+          (λ w. ⊎-elim (λ is. let z : ⊥ = omega arith in absurd z) (λ v. v) (put-only met (key a c) k ha w)) (put-only _ (key b c) k hb′ y);
+      only = λ Q q k y.
+          ⊎-elim (λ is. inr (b, c, m, is, g Q q .1))
+          (λ w. ⊎-elim (λ is. inr (a, c, m, is, g Q q .0)) (λ v. inl v) (put-only met (key a c) k ha w)) (put-only _ (key b c) k hb′ y);
     }
 
 module _ (n m i c : ℕ) (few : n ≤ 64) (few-m : m ≤ 64) (small : i ≤ 63) (l : c < 64) where
@@ -157,80 +157,88 @@ Inv p fs ss fm sm k =
 module _ (p : Property) (few : length (conditions-of p) ≤ 64) (few-s : length (sequences-of p) ≤ 64) (few-f : length (formulas-of p) ≤ 64)
     (fs ss fm sm : List Bool) (k : ℕ) (h : k < 64 * length (formulas-of p)) (inv : Inv p fs ss fm sm (k + 1)) where
   pub step-no : getD fm k false ≡ false → Inv p fs ss fm sm k
-  step-no e =
-      ( inv .0, inv .1, inv .2, inv .3
-      , (λ i c there l u m. ⊎-elim (λ u′. inv .4 i c there l (omega arith) m)
-          (λ u′. let is : key i c ≡ k = omega arith in absurd (both-ways (getD fm k false) e (ap (λ j. getD fm j false) (sym is) ∙ m)))
-          (cases-lt k (key i c)))
-      , inv .5, inv .6, inv .7 )
+  step-no e = (
+    inv .0,
+    inv .1,
+    inv .2,
+    inv .3,
+    (λ i c there l u m. ⊎-elim (λ u′. inv .4 i c there l (omega arith) m)
+        (λ u′. let is : key i c ≡ k = omega arith in absurd (both-ways (getD fm k false) e (ap (λ j. getD fm j false) (sym is) ∙ m)))
+        (cases-lt k (key i c))),
+    inv .5,
+    inv .6,
+    inv .7,
+  )
 
   pub step-yes : getD fm k false ≡ true → Inv p fs ss (with-formulas (entry p (k / 64)) (k % 64) fm) (with-sequences (entry p (k / 64)) (k % 64) sm) k
-  step-yes e =
-      ( (λ i c l m. nf .kept (key i c) (inv .0 i c l m))
-      , (λ i c l m. ns .kept (key i c) (inv .1 i c l m))
-      , (λ i c l m. clock-in i c l (λ was. inv .2 i c l was) (nf .only Q (left Q Q clocks) (key i c) m))
-      , (λ i c l m. clock-in i c l (λ was. inv .3 i c l was) (ns .only Q (right Q Q clocks) (key i c) m))
-      , (λ i c there′ l u m.
-          let was : Marked fm i c = nf .upper (key i c) (omega arith) m in
-          ⊎-elim
-          (λ u′. spread i c l there′ (inv .4 i c there′ l (omega arith) was))
-          (λ u′. let is : key i c ≡ k = omega arith in
-            subst (λ j. For-parts (Marked (with-formulas (entry p (k / 64)) (k % 64) fm)) (Marked (with-sequences (entry p (k / 64)) (k % 64) sm)) (entry p j) c) (sym (entry-of i c k l is))
-            (subst (λ b. For-parts (Marked (with-formulas (entry p (k / 64)) (k % 64) fm)) (Marked (with-sequences (entry p (k / 64)) (k % 64) sm)) (entry p (k / 64)) b) (sym (clock-of i c k l is)) (together _ _ (k % 64) (entry p (k / 64)) (nf .done) (ns .done))))
-          (cases-lt k (key i c)))
-      , (λ fo so closed in-f in-s.
-          let lower = inv .5 fo so closed in-f in-s in
-          let told = closed (k / 64) (k % 64) there (clock-small k) (lower .0 (k / 64) (k % 64) (clock-small k) here) .1 in
-          ( (λ i c l m. marked-in fo i c l (λ was. lower .0 i c l was) (nf .only (Marked fo) (left (Marked fo) (Marked so) told) (key i c) m))
-          , (λ i c l m. marked-in so i c l (λ was. lower .1 i c l was) (ns .only (Marked so) (right (Marked fo) (Marked so) told) (key i c) m)) ))
-      , nf .long ∙ inv .6
-      , ns .long ∙ inv .7 )
+  step-yes e = (
+    (λ i c l m. nf .kept (key i c) (inv .0 i c l m)),
+    (λ i c l m. ns .kept (key i c) (inv .1 i c l m)),
+    (λ i c l m. clock-in i c l (λ was. inv .2 i c l was) (nf .only Q (left Q Q clocks) (key i c) m)),
+    (λ i c l m. clock-in i c l (λ was. inv .3 i c l was) (ns .only Q (right Q Q clocks) (key i c) m)),
+    (λ i c there′ l u m.
+        let was : Marked fm i c = nf .upper (key i c) (omega arith) m in
+        ⊎-elim
+        (λ u′. spread i c l there′ (inv .4 i c there′ l (omega arith) was))
+        (λ u′. let is : key i c ≡ k = omega arith in
+        subst (λ j. For-parts (Marked (with-formulas (entry p (k / 64)) (k % 64) fm)) (Marked (with-sequences (entry p (k / 64)) (k % 64) sm)) (entry p j) c) (sym (entry-of i c k l is))
+        (subst (λ b. For-parts (Marked (with-formulas (entry p (k / 64)) (k % 64) fm)) (Marked (with-sequences (entry p (k / 64)) (k % 64) sm)) (entry p (k / 64)) b) (sym (clock-of i c k l is)) (together _ _ (k % 64) (entry p (k / 64)) (nf .done) (ns .done))))
+        (cases-lt k (key i c))),
+    (λ fo so closed in-f in-s.
+        let lower = inv .5 fo so closed in-f in-s in
+        let told = closed (k / 64) (k % 64) there (clock-small k) (lower .0 (k / 64) (k % 64) (clock-small k) here) .1 in (
+          (λ i c l m. marked-in fo i c l (λ was. lower .0 i c l was) (nf .only (Marked fo) (left (Marked fo) (Marked so) told) (key i c) m)),
+          (λ i c l m. marked-in so i c l (λ was. lower .1 i c l was) (ns .only (Marked so) (right (Marked fo) (Marked so) told) (key i c) m)),
+        )),
+    nf .long ∙ inv .6,
+    ns .long ∙ inv .7,
+  )
     where
-    there : k / 64 < length (formulas-of p)
-    there = inside k (length (formulas-of p)) h
+      there : k / 64 < length (formulas-of p)
+      there = inside k (length (formulas-of p)) h
 
-    names : formula-names (length (conditions-of p)) (length (sequences-of p)) (k / 64) (entry p (k / 64)) ≡ true
-    names = held-formula p (k / 64) there .names
+      names : formula-names (length (conditions-of p)) (length (sequences-of p)) (k / 64) (entry p (k / 64)) ≡ true
+      names = held-formula p (k / 64) there .names
 
-    here : Marked fm (k / 64) (k % 64)
-    here = ap (λ j. getD fm j false) (whole k) ∙ e
+      here : Marked fm (k / 64) (k % 64)
+      here = ap (λ j. getD fm j false) (whole k) ∙ e
 
-    nf : Put (λ P. For-parts P None (entry p (k / 64)) (k % 64)) (64 * (k / 64)) fm (with-formulas (entry p (k / 64)) (k % 64) fm)
-    nf = marked-f (length (conditions-of p)) (length (sequences-of p)) (k / 64) (k % 64) few few-s (omega arith) (clock-small k) (entry p (k / 64)) fm (inv .6) names
+      nf : Put (λ P. For-parts P None (entry p (k / 64)) (k % 64)) (64 * (k / 64)) fm (with-formulas (entry p (k / 64)) (k % 64) fm)
+      nf = marked-f (length (conditions-of p)) (length (sequences-of p)) (k / 64) (k % 64) few few-s (omega arith) (clock-small k) (entry p (k / 64)) fm (inv .6) names
 
-    ns : Put (λ R. For-parts None R (entry p (k / 64)) (k % 64)) 4096 sm (with-sequences (entry p (k / 64)) (k % 64) sm)
-    ns = marked-s (length (conditions-of p)) (length (sequences-of p)) (k / 64) (k % 64) few few-s (omega arith) (clock-small k) (entry p (k / 64)) sm (inv .7) names
+      ns : Put (λ R. For-parts None R (entry p (k / 64)) (k % 64)) 4096 sm (with-sequences (entry p (k / 64)) (k % 64) sm)
+      ns = marked-s (length (conditions-of p)) (length (sequences-of p)) (k / 64) (k % 64) few few-s (omega arith) (clock-small k) (entry p (k / 64)) sm (inv .7) names
 
-    Q : ℕ → ℕ → Type 0
-    Q a b = b < length (conditions-of p)
+      Q : ℕ → ℕ → Type 0
+      Q a b = b < length (conditions-of p)
 
-    left : (P R : ℕ → ℕ → Type 0) → For-parts P R (entry p (k / 64)) (k % 64) → For-parts P None (entry p (k / 64)) (k % 64)
-    left P R x = for-parts P P R None (length (conditions-of p)) (length (sequences-of p)) (k / 64) (k % 64) (entry p (k / 64)) few (clock-small k) names (λ a b _ _ y. y) (λ a b _ _ y. tt) x
+      left : (P R : ℕ → ℕ → Type 0) → For-parts P R (entry p (k / 64)) (k % 64) → For-parts P None (entry p (k / 64)) (k % 64)
+      left P R x = for-parts P P R None (length (conditions-of p)) (length (sequences-of p)) (k / 64) (k % 64) (entry p (k / 64)) few (clock-small k) names (λ a b _ _ y. y) (λ a b _ _ y. tt) x
 
-    right : (P R : ℕ → ℕ → Type 0) → For-parts P R (entry p (k / 64)) (k % 64) → For-parts None R (entry p (k / 64)) (k % 64)
-    right P R x = for-parts P None R R (length (conditions-of p)) (length (sequences-of p)) (k / 64) (k % 64) (entry p (k / 64)) few (clock-small k) names (λ a b _ _ y. tt) (λ a b _ _ y. y) x
+      right : (P R : ℕ → ℕ → Type 0) → For-parts P R (entry p (k / 64)) (k % 64) → For-parts None R (entry p (k / 64)) (k % 64)
+      right P R x = for-parts P None R R (length (conditions-of p)) (length (sequences-of p)) (k / 64) (k % 64) (entry p (k / 64)) few (clock-small k) names (λ a b _ _ y. tt) (λ a b _ _ y. y) x
 
-    clocks : For-parts (λ a b. b < length (conditions-of p)) (λ a b. b < length (conditions-of p)) (entry p (k / 64)) (k % 64)
-    clocks = clocks-f (length (conditions-of p)) (length (sequences-of p)) (k / 64) (k % 64) few few-s (omega arith) (clock-small k) (entry p (k / 64)) (inv .2 (k / 64) (k % 64) (clock-small k) here) names
+      clocks : For-parts (λ a b. b < length (conditions-of p)) (λ a b. b < length (conditions-of p)) (entry p (k / 64)) (k % 64)
+      clocks = clocks-f (length (conditions-of p)) (length (sequences-of p)) (k / 64) (k % 64) few few-s (omega arith) (clock-small k) (entry p (k / 64)) (inv .2 (k / 64) (k % 64) (clock-small k) here) names
 
-    clock-in : {A : Type 0} (i c : ℕ) → c < 64 → (A → c < length (conditions-of p)) → A ⊎ ((a : ℕ) × (b : ℕ) × (b < 64) × (key i c ≡ key a b) × (b < length (conditions-of p))) → c < length (conditions-of p)
-    clock-in i c l was x = ⊎-elim was (λ y. let same : c ≡ y .1 = omega (arith, y .2, y .3) in subst (λ b. b < length (conditions-of p)) (sym same) (y .4)) x
+      clock-in : {A : Type 0} (i c : ℕ) → c < 64 → (A → c < length (conditions-of p)) → A ⊎ ((a : ℕ) × (b : ℕ) × (b < 64) × (key i c ≡ key a b) × (b < length (conditions-of p))) → c < length (conditions-of p)
+      clock-in i c l was x = ⊎-elim was (λ y. let same : c ≡ y .1 = omega (arith, y .2, y .3) in subst (λ b. b < length (conditions-of p)) (sym same) (y .4)) x
 
-    marked-in : {A : Type 0} (o : List Bool) (i c : ℕ) → c < 64 → (A → Marked o i c) → A ⊎ ((a : ℕ) × (b : ℕ) × (b < 64) × (key i c ≡ key a b) × Marked o a b) → Marked o i c
-    marked-in o i c l was x =
-        ⊎-elim was (λ y. let same : key i c ≡ key (y .0) (y .1) = y .3 in ap (λ j. getD o j false) same ∙ y .4) x
+      marked-in : {A : Type 0} (o : List Bool) (i c : ℕ) → c < 64 → (A → Marked o i c) → A ⊎ ((a : ℕ) × (b : ℕ) × (b < 64) × (key i c ≡ key a b) × Marked o a b) → Marked o i c
+      marked-in o i c l was x =
+          ⊎-elim was (λ y. let same : key i c ≡ key (y .0) (y .1) = y .3 in ap (λ j. getD o j false) same ∙ y .4) x
 
-    spread : (i c : ℕ) → c < 64 → i < length (formulas-of p) → For-parts (Marked fm) (Marked sm) (entry p i) c
-        → For-parts (Marked (with-formulas (entry p (k / 64)) (k % 64) fm)) (Marked (with-sequences (entry p (k / 64)) (k % 64) sm)) (entry p i) c
-    spread i c l at x =
-        for-parts (Marked fm) (Marked (with-formulas (entry p (k / 64)) (k % 64) fm)) (Marked sm) (Marked (with-sequences (entry p (k / 64)) (k % 64) sm)) (length (conditions-of p)) (length (sequences-of p)) i c (entry p i) few l (held-formula p i at .names)
-        (λ a b _ _ y. nf .kept (key a b) y) (λ a b _ _ y. ns .kept (key a b) y) x
+      spread : (i c : ℕ) → c < 64 → i < length (formulas-of p) → For-parts (Marked fm) (Marked sm) (entry p i) c
+          → For-parts (Marked (with-formulas (entry p (k / 64)) (k % 64) fm)) (Marked (with-sequences (entry p (k / 64)) (k % 64) sm)) (entry p i) c
+      spread i c l at x =
+          for-parts (Marked fm) (Marked (with-formulas (entry p (k / 64)) (k % 64) fm)) (Marked sm) (Marked (with-sequences (entry p (k / 64)) (k % 64) sm)) (length (conditions-of p)) (length (sequences-of p)) i c (entry p i) few l (held-formula p i at .names)
+          (λ a b _ _ y. nf .kept (key a b) y) (λ a b _ _ y. ns .kept (key a b) y) x
 
 -- before the first key
 pub start : (p : Property) (fs ss : List Bool) → Clocks p fs → Clocks p ss → length fs ≡ 4096 → length ss ≡ 4096 → length (formulas-of p) ≤ 64
     → ((i c : ℕ) → i < length (formulas-of p) → c < 64 → 64 * length (formulas-of p) ≤ key i c → ⊥) → Inv p fs ss fs ss (64 * length (formulas-of p))
 start p fs ss clocks-in-f clocks-in-s long-f long-s few above =
-    ( (λ i c l m. m), (λ i c l m. m), clocks-in-f, clocks-in-s, (λ i c there l u m. absurd (above i c there l u)), (λ fo so closed in-f in-s. (in-f, in-s)), long-f, long-s )
+    ((λ i c l m. m), (λ i c l m. m), clocks-in-f, clocks-in-s, (λ i c there l u m. absurd (above i c there l u)), (λ fo so closed in-f in-s. (in-f, in-s)), long-f, long-s)
 
 abbrev pub At : Property → List Bool → List Bool → ℕ → marks.Marks → Type 0
 At p fs ss k m = Inv p fs ss (m .formulas) (m .sequences) k

@@ -55,7 +55,7 @@ grow-same n cs ds acc [] j h names = refl
 grow-same n cs ds acc (e ∷ es) j h names =
     ap (λ x. grow (sequence-of ds) (acc ++ (x ∷ [])) es) (sequence-same n cs ds cs acc (j + 0) e h (names 0 (omega arith)))
     ∙ grow-same n cs ds (acc ++ (sequence-of cs acc e ∷ [])) es (suc j) h
-      (λ k l. let m : j + suc k ≡ suc j + k = omega arith in subst (λ i. sequence-names n i (getD es k (s.Condition 0)) ≡ true) m (names (suc k) (omega arith)))
+    (λ k l. let m : j + suc k ≡ suc j + k = omega arith in subst (λ i. sequence-names n i (getD es k (s.Condition 0)) ≡ true) m (names (suc k) (omega arith)))
 
 sequences-same : (n : ℕ) (cs ds : List Condition) (es : List entryS.Sequence) → ((a : ℕ) → a < n → getD ds a falsity ≡ getD cs a falsity)
     → ((k : ℕ) → k < length es → sequence-names n k (getD es k (s.Condition 0)) ≡ true) → sequences ds es ≡ sequences cs es
@@ -76,33 +76,33 @@ front-length all es xs k e h = omega (arith, ap length e, length-append es xs)
 
 pub keep-condition : {d e : code.Draft} {k : ℕ} {t : Condition} → Grows d e → Condition-is d k t → Condition-is e k t
 keep-condition {d = d} {e = e} {k = k} g c =
-    record
-    { there = front-length (conditions-in e) (conditions-in d) (g .cs) k (g .conditions) (c .there)
-    ; is = ap (λ es. getD (conditions es) k falsity) (g .conditions) ∙ conditions-front (conditions-in d) (g .cs) k (c .there) ∙ c .is
+    record {
+      there = front-length (conditions-in e) (conditions-in d) (g .cs) k (g .conditions) (c .there);
+      is = ap (λ es. getD (conditions es) k falsity) (g .conditions) ∙ conditions-front (conditions-in d) (g .cs) k (c .there) ∙ c .is;
     }
 
 pub keep-sequence : {d e : code.Draft} {k : ℕ} {t : Sequence} → Sound d → Grows d e → Sequence-is d k t → Sequence-is e k t
 keep-sequence {d = d} {e = e} {k = k} ok g r =
-    record
-    { there = front-length (sequences-in e) (sequences-in d) (g .rs) k (g .sequences) (r .there)
-    ; is =
-        ap (λ es. getD (sequences (conditions (conditions-in e)) es) k empty) (g .sequences)
-        ∙ sequences-front (conditions (conditions-in e)) (sequences-in d) (g .rs) k (r .there)
-        ∙ ap (λ ts. getD ts k empty)
+    record {
+      there = front-length (sequences-in e) (sequences-in d) (g .rs) k (g .sequences) (r .there);
+      is =
+          ap (λ es. getD (sequences (conditions (conditions-in e)) es) k empty) (g .sequences)
+          ∙ sequences-front (conditions (conditions-in e)) (sequences-in d) (g .rs) k (r .there)
+          ∙ ap (λ ts. getD ts k empty)
           (sequences-same (length (conditions-in d)) (conditions (conditions-in d)) (conditions (conditions-in e)) (sequences-in d)
-            (λ a h. ap (λ es. getD (conditions es) a falsity) (g .conditions) ∙ conditions-front (conditions-in d) (g .cs) a h) (ok .names))
-        ∙ r .is
+          (λ a h. ap (λ es. getD (conditions es) a falsity) (g .conditions) ∙ conditions-front (conditions-in d) (g .cs) a h) (ok .names))
+          ∙ r .is;
     }
 
 pub grows-twice : {c d e : code.Draft} → Grows c d → Grows d e → Grows c e
 grows-twice {c = c} {d = d} {e = e} g h =
-    record
-    { cs = g .cs ++ h .cs
-    ; rs = g .rs ++ h .rs
-    ; fs = g .fs ++ h .fs
-    ; conditions = h .conditions ∙ ap (λ x. x ++ h .cs) (g .conditions) ∙ append-assoc (conditions-in c) (g .cs) (h .cs)
-    ; sequences = h .sequences ∙ ap (λ x. x ++ h .rs) (g .sequences) ∙ append-assoc (sequences-in c) (g .rs) (h .rs)
-    ; formulas = h .formulas ∙ ap (λ x. x ++ h .fs) (g .formulas) ∙ append-assoc (formulas-in c) (g .fs) (h .fs)
+    record {
+      cs = g .cs ++ h .cs;
+      rs = g .rs ++ h .rs;
+      fs = g .fs ++ h .fs;
+      conditions = h .conditions ∙ ap (λ x. x ++ h .cs) (g .conditions) ∙ append-assoc (conditions-in c) (g .cs) (h .cs);
+      sequences = h .sequences ∙ ap (λ x. x ++ h .rs) (g .sequences) ∙ append-assoc (sequences-in c) (g .rs) (h .rs);
+      formulas = h .formulas ∙ ap (λ x. x ++ h .fs) (g .formulas) ∙ append-assoc (formulas-in c) (g .fs) (h .fs);
     }
 
 pub grows-none : (d : code.Draft) → Grows d d
@@ -155,7 +155,7 @@ grow-same-f n m cs ds rs us acc [] j h k names = refl
 grow-same-f n m cs ds rs us acc (e ∷ es) j h k names =
     ap (λ x. grow (formula-of ds us) (acc ++ (x ∷ [])) es) (formula-same n m cs ds rs us acc (j + 0) e h k (names 0 (omega arith)))
     ∙ grow-same-f n m cs ds rs us (acc ++ (formula-of cs rs acc e ∷ [])) es (suc j) h k
-      (λ x l. let q : j + suc x ≡ suc j + x = omega arith in subst (λ i. formula-names n m i (getD es x (f.Strong 0)) ≡ true) q (names (suc x) (omega arith)))
+    (λ x l. let q : j + suc x ≡ suc j + x = omega arith in subst (λ i. formula-names n m i (getD es x (f.Strong 0)) ≡ true) q (names (suc x) (omega arith)))
 
 formulas-same : (n m : ℕ) (cs ds : List Condition) (rs us : List Sequence) (es : List entryF.Formula)
     → ((a : ℕ) → a < n → getD ds a falsity ≡ getD cs a falsity) → ((a : ℕ) → a < m → getD us a empty ≡ getD rs a empty)
@@ -170,17 +170,17 @@ formulas-front cs rs es xs k h = prefix-at (formula-of cs rs) es xs k nothing h
 
 pub keep-formula : {d e : code.Draft} {k : ℕ} {t : Formula} → Sound d → Grows d e → Formula-is d k t → Formula-is e k t
 keep-formula {d = d} {e = e} {k = k} ok g r =
-    record
-    { there = front-length (formulas-in e) (formulas-in d) (g .fs) k (g .formulas) (r .there)
-    ; is =
-        ap (λ es. getD (formulas (conditions (conditions-in e)) (sequences (conditions (conditions-in e)) (sequences-in e)) es) k nothing) (g .formulas)
-        ∙ formulas-front (conditions (conditions-in e)) (sequences (conditions (conditions-in e)) (sequences-in e)) (formulas-in d) (g .fs) k (r .there)
-        ∙ ap (λ ts. getD ts k nothing)
+    record {
+      there = front-length (formulas-in e) (formulas-in d) (g .fs) k (g .formulas) (r .there);
+      is =
+          ap (λ es. getD (formulas (conditions (conditions-in e)) (sequences (conditions (conditions-in e)) (sequences-in e)) es) k nothing) (g .formulas)
+          ∙ formulas-front (conditions (conditions-in e)) (sequences (conditions (conditions-in e)) (sequences-in e)) (formulas-in d) (g .fs) k (r .there)
+          ∙ ap (λ ts. getD ts k nothing)
           (formulas-same (length (conditions-in d)) (length (sequences-in d)) (conditions (conditions-in d)) (conditions (conditions-in e)) (sequences (conditions (conditions-in d)) (sequences-in d)) (sequences (conditions (conditions-in e)) (sequences-in e)) (formulas-in d)
-            (λ a h. ap (λ es. getD (conditions es) a falsity) (g .conditions) ∙ conditions-front (conditions-in d) (g .cs) a h)
-            (λ a h. keep-sequence {d = d} {e = e} {k = a} ok g (record { there = h; is = refl }) .is)
-            (ok .names-f))
-        ∙ r .is
+          (λ a h. ap (λ es. getD (conditions es) a falsity) (g .conditions) ∙ conditions-front (conditions-in d) (g .cs) a h)
+          (λ a h. keep-sequence {d = d} {e = e} {k = a} ok g (record { there = h; is = refl }) .is)
+          (ok .names-f))
+          ∙ r .is;
     }
 
 -- one more entry names what it may
@@ -191,17 +191,17 @@ push-names names first es e all here k h =
     ⊎-elim
     (λ l. ap (names k) (getD-append-left es (e ∷ []) first k l) ∙ all k l)
     (λ l. let is : length es ≡ k = omega (arith, length-push es e) in
-      ap (names k) (getD-push es e first k is) ∙ subst (λ i. names i e ≡ true) is here)
+    ap (names k) (getD-push es e first k is) ∙ subst (λ i. names i e ≡ true) is here)
     (cases-lt k (length es))
 
 module _ (d : code.Draft) (ok : Sound d) where
   abbrev pub with-condition : entryC.Condition → code.Draft
   with-condition e =
-      record
-      { counts = record { conditions = d .counts .conditions + 1; sequences = d .counts .sequences; formulas = d .counts .formulas }
-      ; conditions = set (d .conditions) (d .counts .conditions) e
-      ; sequences = d .sequences
-      ; formulas = d .formulas
+      record {
+        counts = record { conditions = d .counts .conditions + 1; sequences = d .counts .sequences; formulas = d .counts .formulas };
+        conditions = set (d .conditions) (d .counts .conditions) e;
+        sequences = d .sequences;
+        formulas = d .formulas;
       }
 
   module _ (e : entryC.Condition) (room : d .counts .conditions < 256) (fine : condition-names (length (conditions-in d)) e ≡ true) where
@@ -220,32 +220,32 @@ module _ (d : code.Draft) (ok : Sound d) where
 
     pub condition-is : Condition-is (with-condition e) (d .counts .conditions) (condition-of (conditions (conditions-in d)) e)
     condition-is =
-        record
-        { there = omega (arith, ap length push-c, length-push (conditions-in d) e, count-c)
-        ; is = ap₂ (λ es k. getD (conditions es) k falsity) push-c (sym count-c) ∙ last-c (conditions-in d)
+        record {
+          there = omega (arith, ap length push-c, length-push (conditions-in d) e, count-c);
+          is = ap₂ (λ es k. getD (conditions es) k falsity) push-c (sym count-c) ∙ last-c (conditions-in d);
         }
 
     pub condition-sound : Sound (with-condition e)
     condition-sound =
-        record
-        { long-c = length-set (d .conditions) (d .counts .conditions) e ∙ ok .long-c
-        ; names-c = subst (λ es. (k : ℕ) → k < length es → condition-names k (getD es k c.True) ≡ true) (sym push-c) (push-names condition-names c.True (conditions-in d) e (ok .names-c) fine)
-        ; long-s = ok .long-s
-        ; few-c = omega arith
-        ; few-s = ok .few-s
-        ; long-f = ok .long-f
-        ; few-f = ok .few-f
-        ; names-f = λ k h. names-more-f (length (conditions-in d)) (length (conditions-in (with-condition e))) (length (sequences-in d)) (length (sequences-in d)) k _ (omega (arith, ap length push-c, length-push (conditions-in d) e)) (omega arith) (ok .names-f k h)
-        ; names = λ k h. names-more (length (conditions-in d)) (length (conditions-in (with-condition e))) k _ (omega (arith, ap length push-c, length-push (conditions-in d) e)) (ok .names k h)
+        record {
+          long-c = length-set (d .conditions) (d .counts .conditions) e ∙ ok .long-c;
+          names-c = subst (λ es. (k : ℕ) → k < length es → condition-names k (getD es k c.True) ≡ true) (sym push-c) (push-names condition-names c.True (conditions-in d) e (ok .names-c) fine);
+          long-s = ok .long-s;
+          few-c = omega arith;
+          few-s = ok .few-s;
+          long-f = ok .long-f;
+          few-f = ok .few-f;
+          names-f = λ k h. names-more-f (length (conditions-in d)) (length (conditions-in (with-condition e))) (length (sequences-in d)) (length (sequences-in d)) k _ (omega (arith, ap length push-c, length-push (conditions-in d) e)) (omega arith) (ok .names-f k h);
+          names = λ k h. names-more (length (conditions-in d)) (length (conditions-in (with-condition e))) k _ (omega (arith, ap length push-c, length-push (conditions-in d) e)) (ok .names k h);
         }
 
   abbrev pub with-sequence : entryS.Sequence → code.Draft
   with-sequence e =
-      record
-      { counts = record { conditions = d .counts .conditions; sequences = d .counts .sequences + 1; formulas = d .counts .formulas }
-      ; conditions = d .conditions
-      ; sequences = set (d .sequences) (d .counts .sequences) e
-      ; formulas = d .formulas
+      record {
+        counts = record { conditions = d .counts .conditions; sequences = d .counts .sequences + 1; formulas = d .counts .formulas };
+        conditions = d .conditions;
+        sequences = set (d .sequences) (d .counts .sequences) e;
+        formulas = d .formulas;
       }
 
   module _ (e : entryS.Sequence) (room : d .counts .sequences < 256) (fine : sequence-names (length (conditions-in d)) (length (sequences-in d)) e ≡ true) where
@@ -264,23 +264,23 @@ module _ (d : code.Draft) (ok : Sound d) where
 
     pub sequence-is : Sequence-is (with-sequence e) (d .counts .sequences) (sequence-of (conditions (conditions-in d)) (sequences (conditions (conditions-in d)) (sequences-in d)) e)
     sequence-is =
-        record
-        { there = omega (arith, ap length push-s, length-push (sequences-in d) e, count-s)
-        ; is = ap₂ (λ es k. getD (sequences (conditions (conditions-in d)) es) k empty) push-s (sym count-s) ∙ last-s (conditions (conditions-in d)) (sequences-in d)
+        record {
+          there = omega (arith, ap length push-s, length-push (sequences-in d) e, count-s);
+          is = ap₂ (λ es k. getD (sequences (conditions (conditions-in d)) es) k empty) push-s (sym count-s) ∙ last-s (conditions (conditions-in d)) (sequences-in d);
         }
 
     pub sequence-sound : Sound (with-sequence e)
     sequence-sound =
-        record
-        { long-c = ok .long-c
-        ; names-c = ok .names-c
-        ; long-s = length-set (d .sequences) (d .counts .sequences) e ∙ ok .long-s
-        ; few-c = ok .few-c
-        ; few-s = omega arith
-        ; long-f = ok .long-f
-        ; few-f = ok .few-f
-        ; names-f = λ k h. names-more-f (length (conditions-in d)) (length (conditions-in d)) (length (sequences-in d)) (length (sequences-in (with-sequence e))) k _ (omega arith) (omega (arith, ap length push-s, length-push (sequences-in d) e)) (ok .names-f k h)
-        ; names = subst (λ es. (k : ℕ) → k < length es → sequence-names (length (conditions-in d)) k (getD es k (s.Condition 0)) ≡ true) (sym push-s) (push-names (sequence-names (length (conditions-in d))) (s.Condition 0) (sequences-in d) e (ok .names) fine)
+        record {
+          long-c = ok .long-c;
+          names-c = ok .names-c;
+          long-s = length-set (d .sequences) (d .counts .sequences) e ∙ ok .long-s;
+          few-c = ok .few-c;
+          few-s = omega arith;
+          long-f = ok .long-f;
+          few-f = ok .few-f;
+          names-f = λ k h. names-more-f (length (conditions-in d)) (length (conditions-in d)) (length (sequences-in d)) (length (sequences-in (with-sequence e))) k _ (omega arith) (omega (arith, ap length push-s, length-push (sequences-in d) e)) (ok .names-f k h);
+          names = subst (λ es. (k : ℕ) → k < length es → sequence-names (length (conditions-in d)) k (getD es k (s.Condition 0)) ≡ true) (sym push-s) (push-names (sequence-names (length (conditions-in d))) (s.Condition 0) (sequences-in d) e (ok .names) fine);
         }
 
 pub condition-as : {d : code.Draft} {k : ℕ} {t u : Condition} → t ≡ u → Condition-is d k t → Condition-is d k u
@@ -295,11 +295,11 @@ formula-as e c = record { there = c .there; is = c .is ∙ e }
 module _ (d : code.Draft) (ok : Sound d) where
   abbrev pub with-formula : entryF.Formula → code.Draft
   with-formula e =
-      record
-      { counts = record { conditions = d .counts .conditions; sequences = d .counts .sequences; formulas = d .counts .formulas + 1 }
-      ; conditions = d .conditions
-      ; sequences = d .sequences
-      ; formulas = set (d .formulas) (d .counts .formulas) e
+      record {
+        counts = record { conditions = d .counts .conditions; sequences = d .counts .sequences; formulas = d .counts .formulas + 1 };
+        conditions = d .conditions;
+        sequences = d .sequences;
+        formulas = set (d .formulas) (d .counts .formulas) e;
       }
 
   module _ (e : entryF.Formula) (room : d .counts .formulas < 256) (fine : formula-names (length (conditions-in d)) (length (sequences-in d)) (length (formulas-in d)) e ≡ true) where
@@ -315,28 +315,28 @@ module _ (d : code.Draft) (ok : Sound d) where
 
     pub formula-sound : Sound (with-formula e)
     formula-sound =
-        record
-        { long-c = ok .long-c
-        ; names-c = ok .names-c
-        ; long-s = ok .long-s
-        ; few-c = ok .few-c
-        ; few-s = ok .few-s
-        ; names = ok .names
-        ; long-f = length-set (d .formulas) (d .counts .formulas) e ∙ ok .long-f
-        ; few-f = omega arith
-        ; names-f = subst (λ es. (k : ℕ) → k < length es → formula-names (length (conditions-in d)) (length (sequences-in d)) k (getD es k (f.Strong 0)) ≡ true) (sym push-f) (push-names (formula-names (length (conditions-in d)) (length (sequences-in d))) (f.Strong 0) (formulas-in d) e (ok .names-f) fine)
+        record {
+          long-c = ok .long-c;
+          names-c = ok .names-c;
+          long-s = ok .long-s;
+          few-c = ok .few-c;
+          few-s = ok .few-s;
+          names = ok .names;
+          long-f = length-set (d .formulas) (d .counts .formulas) e ∙ ok .long-f;
+          few-f = omega arith;
+          names-f = subst (λ es. (k : ℕ) → k < length es → formula-names (length (conditions-in d)) (length (sequences-in d)) k (getD es k (f.Strong 0)) ≡ true) (sym push-f) (push-names (formula-names (length (conditions-in d)) (length (sequences-in d))) (f.Strong 0) (formulas-in d) e (ok .names-f) fine);
         }
 
     pub formula-added : Added-formula d (with-formula e) e (d .counts .formulas)
     formula-added =
-        record
-        { sound = formula-sound
-        ; grows = record { cs = []; rs = []; fs = e ∷ []; conditions = sym (append-nil (conditions-in d)); sequences = sym (append-nil (sequences-in d)); formulas = push-f }
-        ; is = record
-          { there = omega (arith, ap length push-f, length-push (formulas-in d) e, count-f)
-          ; is = ap₂ (λ es k. getD (formulas (conditions (conditions-in d)) (sequences (conditions (conditions-in d)) (sequences-in d)) es) k nothing) push-f (sym count-f) ∙ last-f (conditions (conditions-in d)) (sequences (conditions (conditions-in d)) (sequences-in d)) (formulas-in d)
-          }
-        ; count-c = refl
-        ; count-s = refl
-        ; count-f = refl
+        record {
+          sound = formula-sound;
+          grows = record { cs = []; rs = []; fs = e ∷ []; conditions = sym (append-nil (conditions-in d)); sequences = sym (append-nil (sequences-in d)); formulas = push-f };
+          is = record {
+            there = omega (arith, ap length push-f, length-push (formulas-in d) e, count-f);
+            is = ap₂ (λ es k. getD (formulas (conditions (conditions-in d)) (sequences (conditions (conditions-in d)) (sequences-in d)) es) k nothing) push-f (sym count-f) ∙ last-f (conditions (conditions-in d)) (sequences (conditions (conditions-in d)) (sequences-in d)) (formulas-in d);
+          };
+          count-c = refl;
+          count-s = refl;
+          count-f = refl;
         }

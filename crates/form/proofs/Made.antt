@@ -63,8 +63,8 @@ rewritten-made p d root is =
     let few : length (formulas-in d) ≡ d .counts .formulas = length-take-le _ (d .formulas) (omega (arith, is .sound .long-f, is .sound .few-f)) in
     and-from _ _ (lt-ltb root (d .counts .formulas) (omega (arith, is .is .there)))
     (or-left (rewrites p d root) _
-      (and-from _ _ (true-same _ _ (is .is .is ∙ image-rewriting p))
-        (and-from _ _ (eq-eqb _ _ (is .count-c)) (and-from _ _ (eq-eqb _ _ (is .count-s)) (eq-eqb _ _ (is .count-f))))))
+    (and-from _ _ (true-same _ _ (is .is .is ∙ image-rewriting p))
+    (and-from _ _ (eq-eqb _ _ (is .count-c)) (and-from _ _ (eq-eqb _ _ (is .count-s)) (eq-eqb _ _ (is .count-f))))))
 
 pub new-made : (p : Property) (d : code.Draft) (root : ℕ) → root < d .counts .formulas → formula-in d root ≡ weak truth → rewriting p ≡ unclock truth (weak truth) → made p d root ≡ true
 unfolding made as-new
@@ -79,8 +79,8 @@ new-rewriting p cs rs fs =
     ap (λ es. unclock (getD (conditions es) 0 falsity) (tree es (sequences-of p) (formulas-of p))) cs
     ∙ ap₂ (λ es xs. unclock truth (tree (True ∷ []) es xs)) rs fs
   where
-  tree : List entryC.Condition → List entryS.Sequence → List entryF.Formula → Formula
-  tree es xs ys = getD (formulas (conditions es) (sequences (conditions es) xs) ys) (length ys - 1) nothing
+    tree : List entryC.Condition → List entryS.Sequence → List entryF.Formula → Formula
+    tree es xs ys = getD (formulas (conditions es) (sequences (conditions es) xs) ys) (length ys - 1) nothing
 
 -- the entries of a new form name what they may
 pub first-condition : All-named condition-names True (True ∷ [])
@@ -117,12 +117,12 @@ module _ (f : Form) where
       let a = and-parts (same-formula (formula-in (f .draft) (f .root)) (rewriting (f .property))) _ is in
       let b = and-parts _ _ (a .1) in
       let c = and-parts _ _ (b .1) in
-      record
-      { source = refl
-      ; tree = same-true _ _ (a .0)
-      ; conditions = conditions-number ∙ eqb-true _ _ (b .0)
-      ; sequences = sequences-number ∙ eqb-true _ _ (c .0)
-      ; formulas = formulas-number ∙ eqb-true _ _ (c .1)
+      record {
+        source = refl;
+        tree = same-true _ _ (a .0);
+        conditions = conditions-number ∙ eqb-true _ _ (b .0);
+        sequences = sequences-number ∙ eqb-true _ _ (c .0);
+        formulas = formulas-number ∙ eqb-true _ _ (c .1);
       }
 
   new-tree : as-new (f .property) (f .draft) (f .root) ≡ true → (form-tree f ≡ weak truth) × (rewriting (source f) ≡ unclock truth (weak truth))
@@ -139,8 +139,8 @@ module _ (f : Form) where
       ⊎-elim
       (λ is. subst (λ t. Unclocked-satisfies t w ↔ Unclocked-satisfies (rewriting (source f)) w) (sym (from-source is .tree)) ((λ x. x), (λ x. x)))
       (λ is. let new = new-tree is in
-        subst (λ t. Unclocked-satisfies t w ↔ Unclocked-satisfies (rewriting (source f)) w) (sym (new .0))
-        (subst (λ t. Unclocked-satisfies (weak truth) w ↔ Unclocked-satisfies t w) (sym (new .1)) (new-agrees w)))
+      subst (λ t. Unclocked-satisfies t w ↔ Unclocked-satisfies (rewriting (source f)) w) (sym (new .0))
+      (subst (λ t. Unclocked-satisfies (weak truth) w ↔ Unclocked-satisfies t w) (sym (new .1)) (new-agrees w)))
       (parts .1)
 
   pub comes-from-images : From-images (form-tree f)
@@ -154,10 +154,10 @@ module _ (f : Form) where
 pub from-rewritten : (f : Form) → Rewritten (f .property) (f .draft) (f .root) → Made-from (f .property) f
 unfolding form-tree form-conditions form-sequences form-formulas form-root source
 from-rewritten f is =
-    record
-    { source = refl
-    ; tree = is .is .is ∙ image-rewriting (f .property)
-    ; conditions = conditions-number f ∙ is .count-c
-    ; sequences = sequences-number f ∙ is .count-s
-    ; formulas = formulas-number f ∙ is .count-f
+    record {
+      source = refl;
+      tree = is .is .is ∙ image-rewriting (f .property);
+      conditions = conditions-number f ∙ is .count-c;
+      sequences = sequences-number f ∙ is .count-s;
+      formulas = formulas-number f ∙ is .count-f;
     }

@@ -70,9 +70,9 @@ module _ (p : Property) where
   formulas-made =
       formula.meets p few-conditions few-sequences few-formulas first unmarked (64 * length (formulas-of p)) (omega arith) (root-marked p)
       (formula.start p first unmarked
-        (λ i c l m. omega (arith, first-only i c l m, some-conditions))
-        (λ i c l m. absurd (none-marked i c m))
-        (length-set unmarked root true ∙ length-replicate 4096) (length-replicate 4096) few-formulas (λ i c there l u. omega arith))
+      (λ i c l m. omega (arith, first-only i c l m, some-conditions))
+      (λ i c l m. absurd (none-marked i c m))
+      (length-set unmarked root true ∙ length-replicate 4096) (length-replicate 4096) few-formulas (λ i c there l u. omega arith))
 
   abbrev used : List Bool
   used = formulas-met p .sequences
@@ -85,28 +85,29 @@ module _ (p : Property) where
   unfolding met
   met-least = record { closed = closed; formulas = λ other is. below other is .0; sequences = in-sequences }
     where
-    low : (i c : ℕ) → 0 ≤ key i c
-    low i c = omega arith
+      low : (i c : ℕ) → 0 ≤ key i c
+      low i c = omega arith
 
-    closed-s : Sequences-closed p (met p .sequences)
-    closed-s i c there l m = (sequences-made .1 i c l m, sequences-made .2 i c there l (low i c) m)
+      closed-s : Sequences-closed p (met p .sequences)
+      closed-s i c there l m = (sequences-made .1 i c l m, sequences-made .2 i c there l (low i c) m)
 
-    closed-f : Formulas-closed p (met p .formulas) (met p .sequences)
-    closed-f i c there l m =
-        ( formulas-made .2 i c l m
-        , for-parts (Marked (met p .formulas)) (Marked (met p .formulas)) (Marked used) (Marked (met p .sequences)) (length (conditions-of p)) (length (sequences-of p)) i c _
-          few-conditions l (held-formula p i there .names) (λ a b _ _ y. y) (λ a b _ small y. sequences-made .0 a b small y) (formulas-made .4 i c there l (low i c) m) )
+      closed-f : Formulas-closed p (met p .formulas) (met p .sequences)
+      closed-f i c there l m = (
+        formulas-made .2 i c l m,
+        for-parts (Marked (met p .formulas)) (Marked (met p .formulas)) (Marked used) (Marked (met p .sequences)) (length (conditions-of p)) (length (sequences-of p)) i c _
+            few-conditions l (held-formula p i there .names) (λ a b _ _ y. y) (λ a b _ small y. sequences-made .0 a b small y) (formulas-made .4 i c there l (low i c) m),
+      )
 
-    closed : Closed p (met p)
-    closed = record { root = formulas-made .0 _ 0 (omega arith) (put-same unmarked root root-fits); formulas = closed-f; sequences = closed-s }
+      closed : Closed p (met p)
+      closed = record { root = formulas-made .0 _ 0 (omega arith) (put-same unmarked root root-fits); formulas = closed-f; sequences = closed-s }
 
-    rooted : (other : Marks) → Closed p other → Within first (other .formulas)
-    rooted other is i c l m =
-        ⊎-elim (λ at. ap (λ j. getD (other .formulas) j false) at ∙ is .root)
-        (λ was. absurd (none-marked i c was)) (put-only unmarked root (key i c) root-fits m)
+      rooted : (other : Marks) → Closed p other → Within first (other .formulas)
+      rooted other is i c l m =
+          ⊎-elim (λ at. ap (λ j. getD (other .formulas) j false) at ∙ is .root)
+          (λ was. absurd (none-marked i c was)) (put-only unmarked root (key i c) root-fits m)
 
-    below : (other : Marks) → Closed p other → Within (met p .formulas) (other .formulas) × Within used (other .sequences)
-    below other is = formulas-made .5 (other .formulas) (other .sequences) (is .formulas) (rooted other is) (λ i c l m. absurd (none-marked i c m))
+      below : (other : Marks) → Closed p other → Within (met p .formulas) (other .formulas) × Within used (other .sequences)
+      below other is = formulas-made .5 (other .formulas) (other .sequences) (is .formulas) (rooted other is) (λ i c l m. absurd (none-marked i c m))
 
-    in-sequences : (other : Marks) → Closed p other → Within (met p .sequences) (other .sequences)
-    in-sequences other is = sequences-made .3 (other .sequences) (is .sequences) (below other is .1)
+      in-sequences : (other : Marks) → Closed p other → Within (met p .sequences) (other .sequences)
+      in-sequences other is = sequences-made .3 (other .sequences) (is .sequences) (below other is .1)

@@ -78,7 +78,7 @@ module _ (p : Property) where
   sized-below (suc n) i l h =
       subst Sized (sym (tree-at p i 0 h))
       (sized-entry (length (conditions-of p)) i (take i (formula-trees p)) _ (held-formula p i h .names)
-        (λ a m. subst Sized (sym (getD-take i (formula-trees p) a nothing m)) (sized-below n a (omega arith) (omega arith))))
+      (λ a m. subst Sized (sym (getD-take i (formula-trees p) a nothing m)) (sized-below n a (omega arith) (omega arith))))
 
   pub from-images : From-images (rewriting p)
   unfolding rewriting property-tree

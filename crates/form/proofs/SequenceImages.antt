@@ -46,7 +46,7 @@ module _ (p : Property) where
 
     two : (f : Sequence → Sequence → Sequence) (a b : ℕ) → (ltb a i && ltb b i) ≡ true
         → f (unclock-sequence (getD (condition-trees p) c falsity) (getD (take i (sequence-trees p)) a empty)) (unclock-sequence (getD (condition-trees p) c falsity) (getD (take i (sequence-trees p)) b empty))
-          ≡ f (sequence-image p a c) (sequence-image p b c)
+        ≡ f (sequence-image p a c) (sequence-image p b c)
     two f a b q = let h = and-parts (ltb a i) (ltb b i) q in ap₂ f (lower a c (ltb-true a i (h .0))) (lower b c (ltb-true b i (h .1)))
 
     rewritten-is : (n : ℕ) (e : entryS.Sequence) → sequence-names n i e ≡ true
@@ -73,13 +73,13 @@ module _ (p : Property) where
       pub wrote : (x : entryS.Sequence) (r : ℕ) → Added-sequence d d′ x r → sequence-of (conditions (conditions-in d)) (sequences (conditions (conditions-in d)) (sequences-in d)) x ≡ rewritten e c
           → sequence-adds-conditions e ≡ 0 → sequence-adds-sequences e ≡ 1 → Wrote-sequence p i c d d′ r
       wrote x r new same zero-c one-s =
-          record
-          { sound = new .sound
-          ; grows = new .grows
-          ; is = sequence-as (same ∙ sym (image-is e told)) (new .is)
-          ; count-c = omega (arith, new .count-c, zero-c, ap sequence-adds-conditions (told .is))
-          ; count-s = omega (arith, new .count-s, one-s, ap sequence-adds-sequences (told .is))
-          ; count-f = new .count-f
+          record {
+            sound = new .sound;
+            grows = new .grows;
+            is = sequence-as (same ∙ sym (image-is e told)) (new .is);
+            count-c = omega (arith, new .count-c, zero-c, ap sequence-adds-conditions (told .is));
+            count-s = omega (arith, new .count-s, one-s, ap sequence-adds-sequences (told .is));
+            count-f = new .count-f;
           }
 
     -- an operand, where it was placed

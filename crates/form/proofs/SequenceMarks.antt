@@ -50,12 +50,12 @@ one : (e : entryS.Sequence) (i c : ℕ) (met : List Bool) (a b : ℕ) → a < i 
     → (Marked (set met (key a b) true) a b → For-operands (Marked (set met (key a b) true)) e c)
     → ((Q : ℕ → ℕ → Type 0) → For-operands Q e c → Q a b) → Put e i c met (set met (key a b) true)
 one e i c met a b l m h f g =
-    record
-    { long = length-set met (key a b) true
-    ; kept = λ k x. put-keeps met (key a b) k h x
-    ; done = f (put-same met (key a b) h)
-    ; upper = λ k u x. ⊎-elim (λ is. let z : ⊥ = omega arith in absurd z) (λ y. y) (put-only met (key a b) k h x)
-    ; only = λ Q q k x. ⊎-elim (λ is. inr (a, b, m, is, g Q q)) (λ y. inl y) (put-only met (key a b) k h x)
+    record {
+      long = length-set met (key a b) true;
+      kept = λ k x. put-keeps met (key a b) k h x;
+      done = f (put-same met (key a b) h);
+      upper = λ k u x. ⊎-elim (λ is. let z : ⊥ = omega arith in absurd z) (λ y. y) (put-only met (key a b) k h x);
+      only = λ Q q k x. ⊎-elim (λ is. inr (a, b, m, is, g Q q)) (λ y. inl y) (put-only met (key a b) k h x);
     }
 
 two : (e : entryS.Sequence) (i c : ℕ) (met : List Bool) (a b : ℕ) → a < i → b < i → c < 64 → key a c < length met → key b c < length met
@@ -64,16 +64,16 @@ two : (e : entryS.Sequence) (i c : ℕ) (met : List Bool) (a b : ℕ) → a < i 
 two e i c met a b la lb m ha hb f g =
     let long : length (set met (key a c) true) ≡ length met = length-set met (key a c) true in
     let hb′ : key b c < length (set met (key a c) true) = omega arith in
-    record
-    { long = length-set (set met (key a c) true) (key b c) true ∙ long
-    ; kept = λ k x. put-keeps _ (key b c) k hb′ (put-keeps met (key a c) k ha x)
-    ; done = f (Marked _) (put-keeps _ (key b c) (key a c) hb′ (put-same met (key a c) ha)) (put-same _ (key b c) hb′)
-    ; upper = λ k u x.
-        ⊎-elim (λ is. let z : ⊥ = omega arith in absurd z)
-        (λ y. ⊎-elim (λ is. let z : ⊥ = omega arith in absurd z) (λ w. w) (put-only met (key a c) k ha y)) (put-only _ (key b c) k hb′ x)
-    ; only = λ Q q k x.
-        ⊎-elim (λ is. inr (b, c, m, is, g Q q .1))
-        (λ y. ⊎-elim (λ is. inr (a, c, m, is, g Q q .0)) (λ w. inl w) (put-only met (key a c) k ha y)) (put-only _ (key b c) k hb′ x)
+    record {
+      long = length-set (set met (key a c) true) (key b c) true ∙ long;
+      kept = λ k x. put-keeps _ (key b c) k hb′ (put-keeps met (key a c) k ha x);
+      done = f (Marked _) (put-keeps _ (key b c) (key a c) hb′ (put-same met (key a c) ha)) (put-same _ (key b c) hb′);
+      upper = λ k u x.
+          ⊎-elim (λ is. let z : ⊥ = omega arith in absurd z)
+          (λ y. ⊎-elim (λ is. let z : ⊥ = omega arith in absurd z) (λ w. w) (put-only met (key a c) k ha y)) (put-only _ (key b c) k hb′ x);
+      only = λ Q q k x.
+          ⊎-elim (λ is. inr (b, c, m, is, g Q q .1))
+          (λ y. ⊎-elim (λ is. inr (a, c, m, is, g Q q .0)) (λ w. inl w) (put-only met (key a c) k ha y)) (put-only _ (key b c) k hb′ x);
     }
 
 pub marked : (n i c : ℕ) (e : entryS.Sequence) (met : List Bool) → n ≤ 64 → i ≤ 63 → c < 64 → length met ≡ 4096 → sequence-names n i e ≡ true → Put e i c met (with-operands e c met)
@@ -128,54 +128,58 @@ Inv p seed met k =
 
 module _ (p : Property) (few : length (conditions-of p) ≤ 64) (few-s : length (sequences-of p) ≤ 64) (seed met : List Bool) (k : ℕ) (h : k < 64 * length (sequences-of p)) (inv : Inv p seed met (k + 1)) where
   pub step-no : getD met k false ≡ false → Inv p seed met k
-  step-no e =
-      ( inv .0, inv .1
-      , (λ i c there l u m. ⊎-elim (λ u′. inv .2 i c there l (omega arith) m)
-          (λ u′. let is : key i c ≡ k = omega arith in absurd (both-ways (getD met k false) e (ap (λ j. getD met j false) (sym is) ∙ m)))
-          (cases-lt k (key i c)))
-      , inv .3, inv .4 )
+  step-no e = (
+    inv .0,
+    inv .1,
+    (λ i c there l u m. ⊎-elim (λ u′. inv .2 i c there l (omega arith) m)
+        (λ u′. let is : key i c ≡ k = omega arith in absurd (both-ways (getD met k false) e (ap (λ j. getD met j false) (sym is) ∙ m)))
+        (cases-lt k (key i c))),
+    inv .3,
+    inv .4,
+  )
 
   pub step-yes : getD met k false ≡ true → Inv p seed (with-operands (entry p (k / 64)) (k % 64) met) k
-  step-yes e =
-      ( (λ i c l m. new .kept (key i c) (inv .0 i c l m))
-      , (λ i c l m. ⊎-elim (λ was. inv .1 i c l was)
-          (λ x. let same : c ≡ x .1 = omega (arith, x .2, x .3) in subst (λ b. b < length (conditions-of p)) (sym same) (x .4))
-          (new .only (λ a b. b < length (conditions-of p)) (clocks-of (length (conditions-of p)) (k / 64) (k % 64) (entry p (k / 64)) clock names) (key i c) m))
-      , (λ i c there l u m.
-          let was : Marked met i c = new .upper (key i c) (omega arith) m in
-          ⊎-elim
-          (λ u′. spread i c l there (inv .2 i c there l (omega arith) was))
-          (λ u′. let is : key i c ≡ k = omega arith in
-            subst (λ j. For-operands (Marked (with-operands (entry p (k / 64)) (k % 64) met)) (entry p j) c) (sym (entry-of i c k l is)) (subst (λ b. For-operands (Marked (with-operands (entry p (k / 64)) (k % 64) met)) (entry p (k / 64)) b) (sym (clock-of i c k l is)) (new .done)))
-          (cases-lt k (key i c)))
-      , (λ other closed in-seed i c l m.
-          let low = inv .3 other closed in-seed in
-          let told = closed (k / 64) (k % 64) there (clock-small k) (low (k / 64) (k % 64) (clock-small k) here) .1 in
-          ⊎-elim (λ was. low i c l was)
-          (λ x. let same-c : c ≡ x .1 = omega (arith, x .2, x .3) in
-            let same-i : i ≡ x .0 = omega (arith, x .2, x .3) in
-            subst (λ j. Marked other j c) (sym same-i) (subst (λ b. Marked other (x .0) b) (sym same-c) (x .4)))
-          (new .only (Marked other) told (key i c) m))
-      , new .long ∙ inv .4 )
+  step-yes e = (
+    (λ i c l m. new .kept (key i c) (inv .0 i c l m)),
+    (λ i c l m. ⊎-elim (λ was. inv .1 i c l was)
+        (λ x. let same : c ≡ x .1 = omega (arith, x .2, x .3) in subst (λ b. b < length (conditions-of p)) (sym same) (x .4))
+        (new .only (λ a b. b < length (conditions-of p)) (clocks-of (length (conditions-of p)) (k / 64) (k % 64) (entry p (k / 64)) clock names) (key i c) m)),
+    (λ i c there l u m.
+        let was : Marked met i c = new .upper (key i c) (omega arith) m in
+        ⊎-elim
+        (λ u′. spread i c l there (inv .2 i c there l (omega arith) was))
+        (λ u′. let is : key i c ≡ k = omega arith in
+        subst (λ j. For-operands (Marked (with-operands (entry p (k / 64)) (k % 64) met)) (entry p j) c) (sym (entry-of i c k l is)) (subst (λ b. For-operands (Marked (with-operands (entry p (k / 64)) (k % 64) met)) (entry p (k / 64)) b) (sym (clock-of i c k l is)) (new .done)))
+        (cases-lt k (key i c))),
+    (λ other closed in-seed i c l m.
+        let low = inv .3 other closed in-seed in
+        let told = closed (k / 64) (k % 64) there (clock-small k) (low (k / 64) (k % 64) (clock-small k) here) .1 in
+        ⊎-elim (λ was. low i c l was)
+        (λ x. let same-c : c ≡ x .1 = omega (arith, x .2, x .3) in
+        let same-i : i ≡ x .0 = omega (arith, x .2, x .3) in
+        subst (λ j. Marked other j c) (sym same-i) (subst (λ b. Marked other (x .0) b) (sym same-c) (x .4)))
+        (new .only (Marked other) told (key i c) m)),
+    new .long ∙ inv .4,
+  )
     where
-    there : k / 64 < length (sequences-of p)
-    there = inside k (length (sequences-of p)) h
+      there : k / 64 < length (sequences-of p)
+      there = inside k (length (sequences-of p)) h
 
-    names : sequence-names (length (conditions-of p)) (k / 64) (entry p (k / 64)) ≡ true
-    names = held-sequence p (k / 64) there .names
+      names : sequence-names (length (conditions-of p)) (k / 64) (entry p (k / 64)) ≡ true
+      names = held-sequence p (k / 64) there .names
 
-    here : Marked met (k / 64) (k % 64)
-    here = ap (λ j. getD met j false) (whole k) ∙ e
+      here : Marked met (k / 64) (k % 64)
+      here = ap (λ j. getD met j false) (whole k) ∙ e
 
-    clock : k % 64 < length (conditions-of p)
-    clock = inv .1 (k / 64) (k % 64) (clock-small k) here
+      clock : k % 64 < length (conditions-of p)
+      clock = inv .1 (k / 64) (k % 64) (clock-small k) here
 
-    new : Put (entry p (k / 64)) (k / 64) (k % 64) met (with-operands (entry p (k / 64)) (k % 64) met)
-    new = marked (length (conditions-of p)) (k / 64) (k % 64) (entry p (k / 64)) met few (omega arith) (clock-small k) (inv .4) names
+      new : Put (entry p (k / 64)) (k / 64) (k % 64) met (with-operands (entry p (k / 64)) (k % 64) met)
+      new = marked (length (conditions-of p)) (k / 64) (k % 64) (entry p (k / 64)) met few (omega arith) (clock-small k) (inv .4) names
 
-    spread : (i c : ℕ) → c < 64 → i < length (sequences-of p) → For-operands (Marked met) (entry p i) c → For-operands (Marked (with-operands (entry p (k / 64)) (k % 64) met)) (entry p i) c
-    spread i c l at x =
-        for-operands (Marked met) (Marked (with-operands (entry p (k / 64)) (k % 64) met)) (length (conditions-of p)) i c (entry p i) few l (held-sequence p i at .names) (λ a b _ _ y. new .kept (key a b) y) x
+      spread : (i c : ℕ) → c < 64 → i < length (sequences-of p) → For-operands (Marked met) (entry p i) c → For-operands (Marked (with-operands (entry p (k / 64)) (k % 64) met)) (entry p i) c
+      spread i c l at x =
+          for-operands (Marked met) (Marked (with-operands (entry p (k / 64)) (k % 64) met)) (length (conditions-of p)) i c (entry p i) few l (held-sequence p i at .names) (λ a b _ _ y. new .kept (key a b) y) x
 
 -- before the first key
 pub start : (p : Property) (seed : List Bool) → Clocks p seed → length seed ≡ 4096 → Inv p seed seed (64 * length (sequences-of p))

@@ -1,5 +1,5 @@
 -- The pass over the pairs of sequences and clocks.
-use mathlib.Core.Bool.{Bool, true, false, _&&_} 
+use mathlib.Core.Bool.{Bool, true, false, _&&_}
 use mathlib.Core.List.{List, [], _∷_, _++_}
 use mathlib.Core.Logic.{_⊎_, inl, inr, ⊎-elim, _≢_}
 use mathlib.Core.Path.{_≡_, refl, sym, _∙_, ap, ap₂, subst}
@@ -55,34 +55,41 @@ clock-of i c k l e = omega arith
 
 module _ (p : Property) (met : List Bool) (d₀ d : code.Draft) (places : List ℕ) (k : ℕ) (inv : Sequences-stand p met d₀ d places k) where
   pub step-no : getD met k false ≡ false → Sequences-stand p met d₀ d places (k + 1)
-  step-no e =
-      ( inv .0, inv .1, inv .2
-      , (λ i c l h m. ⊎-elim (λ h′. inv .3 i c l h′ m)
-          (λ h′. let is : key i c ≡ k = omega arith in absurd (both-ways (getD met k false) e (ap (λ k. getD met k false) (sym is) ∙ m)))
-          (cases-lt (key i c) k))
-      , inv .4 ∙ ap (λ x. d₀ .counts .conditions + x) (sym (total-no (s.Condition 0) sequence-adds-conditions (sequences-of p) met k e))
-      , inv .5 ∙ ap (λ x. d₀ .counts .sequences + x) (sym (total-no (s.Condition 0) sequence-adds-sequences (sequences-of p) met k e))
-      , inv .6, inv .7 )
+  step-no e = (
+    inv .0,
+    inv .1,
+    inv .2,
+    (λ i c l h m. ⊎-elim (λ h′. inv .3 i c l h′ m)
+        (λ h′. let is : key i c ≡ k = omega arith in absurd (both-ways (getD met k false) e (ap (λ k. getD met k false) (sym is) ∙ m)))
+        (cases-lt (key i c) k)),
+    inv .4 ∙ ap (λ x. d₀ .counts .conditions + x) (sym (total-no (s.Condition 0) sequence-adds-conditions (sequences-of p) met k e)),
+    inv .5 ∙ ap (λ x. d₀ .counts .sequences + x) (sym (total-no (s.Condition 0) sequence-adds-sequences (sequences-of p) met k e)),
+    inv .6,
+    inv .7,
+  )
 
   pub step-yes : (d′ : code.Draft) (r : ℕ) → getD met k false ≡ true → k < 4096 → Wrote-sequence p (k / 64) (k % 64) d d′ r → Sequences-stand p met d₀ d′ (set places k r) (k + 1)
-  step-yes d′ r e few new =
-      ( new .sound, grows-twice (inv .1) (new .grows)
-      , (λ j h. keep-condition (new .grows) (inv .2 j h))
-      , (λ i c l h m. ⊎-elim (λ h′. old i c h′ (inv .3 i c l h′ m)) (λ h′. let is : key i c ≡ k = omega arith in here i c l is) (cases-lt (key i c) k))
-      , (let q = total-yes (s.Condition 0) sequence-adds-conditions (sequences-of p) met k e in omega (arith, q, new .count-c, inv .4))
-      , (let q = total-yes (s.Condition 0) sequence-adds-sequences (sequences-of p) met k e in omega (arith, q, new .count-s, inv .5))
-      , length-set places k r ∙ inv .6, new .count-f ∙ inv .7 )
+  step-yes d′ r e few new = (
+    new .sound,
+    grows-twice (inv .1) (new .grows),
+    (λ j h. keep-condition (new .grows) (inv .2 j h)),
+    (λ i c l h m. ⊎-elim (λ h′. old i c h′ (inv .3 i c l h′ m)) (λ h′. let is : key i c ≡ k = omega arith in here i c l is) (cases-lt (key i c) k)),
+    (let q = total-yes (s.Condition 0) sequence-adds-conditions (sequences-of p) met k e in omega (arith, q, new .count-c, inv .4)),
+    (let q = total-yes (s.Condition 0) sequence-adds-sequences (sequences-of p) met k e in omega (arith, q, new .count-s, inv .5)),
+    length-set places k r ∙ inv .6,
+    new .count-f ∙ inv .7,
+  )
     where
-    old : (i c : ℕ) → key i c < k → Sequence-placed p d places i c → Sequence-placed p d′ (set places k r) i c
-    old i c h was =
-        let ne : key i c ≢ k = omega arith in
-        subst (λ x. Sequence-is d′ x (sequence-image p i c)) (sym (getD-set-other places k (key i c) r 0 ne)) (keep-sequence (inv .0) (new .grows) was)
+      old : (i c : ℕ) → key i c < k → Sequence-placed p d places i c → Sequence-placed p d′ (set places k r) i c
+      old i c h was =
+          let ne : key i c ≢ k = omega arith in
+          subst (λ x. Sequence-is d′ x (sequence-image p i c)) (sym (getD-set-other places k (key i c) r 0 ne)) (keep-sequence (inv .0) (new .grows) was)
 
-    here : (i c : ℕ) → c < 64 → key i c ≡ k → Sequence-placed p d′ (set places k r) i c
-    here i c l is =
-        let inside : k < length places = omega (arith, inv .6) in
-        subst (λ x. Sequence-is d′ x (sequence-image p i c)) (sym (ap (λ j. getD (set places k r) j 0) is ∙ getD-set-same places k r 0 inside))
-        (subst (λ t. Sequence-is d′ r t) (ap₂ (sequence-image p) (sym (entry-of i c k l is)) (sym (clock-of i c k l is))) (new .is))
+      here : (i c : ℕ) → c < 64 → key i c ≡ k → Sequence-placed p d′ (set places k r) i c
+      here i c l is =
+          let inside : k < length places = omega (arith, inv .6) in
+          subst (λ x. Sequence-is d′ x (sequence-image p i c)) (sym (ap (λ j. getD (set places k r) j 0) is ∙ getD-set-same places k r 0 inside))
+          (subst (λ t. Sequence-is d′ r t) (ap₂ (sequence-image p) (sym (entry-of i c k l is)) (sym (clock-of i c k l is))) (new .is))
 
   -- what the writer of one pair requires
   pub ready-here : Sequences-closed p met → getD met k false ≡ true → k < 64 * length (sequences-of p) → length (conditions-of p) ≤ 64
@@ -92,13 +99,14 @@ module _ (p : Property) (met : List Bool) (d₀ d : code.Draft) (places : List �
       let c = k % 64 in
       let there : i < length (sequences-of p) = inside k (length (sequences-of p)) h in
       let small : c < 64 = clock-small k in
-      let told = closed i c there small (ap (λ j. getD met j false) (whole k) ∙ e) in
-      ( told .0
-      , for-operands (Marked met) (Sequence-placed p d places) (length (conditions-of p)) i c (getD (sequences-of p) i (s.Condition 0)) few small (held-sequence p i there .names)
-        (λ a b l m x. inv .3 a b m (below a b l m) x) (told .1) )
+      let told = closed i c there small (ap (λ j. getD met j false) (whole k) ∙ e) in (
+        told .0,
+        for-operands (Marked met) (Sequence-placed p d places) (length (conditions-of p)) i c (getD (sequences-of p) i (s.Condition 0)) few small (held-sequence p i there .names)
+            (λ a b l m x. inv .3 a b m (below a b l m) x) (told .1),
+      )
     where
-    below : (a b : ℕ) → a < k / 64 → b < 64 → key a b < k
-    below a b l m = omega arith
+      below : (a b : ℕ) → a < k / 64 → b < 64 → key a b < k
+      below a b l m = omega arith
 
   pub room-here : (n : ℕ) → k < n → getD met k false ≡ true → (d₀ .counts .conditions + total (s.Condition 0) sequence-adds-conditions (sequences-of p) met n ≤ 256) × (d₀ .counts .sequences + total (s.Condition 0) sequence-adds-sequences (sequences-of p) met n ≤ 256)
       → (d .counts .conditions + sequence-adds-conditions (getD (sequences-of p) (k / 64) (s.Condition 0)) ≤ 256) × (d .counts .sequences + sequence-adds-sequences (getD (sequences-of p) (k / 64) (s.Condition 0)) ≤ 256)

@@ -13,7 +13,7 @@ use psl::entry::Condition;
 use psl::entry::Formula;
 
 // (not c)! U (c and b)!
-pub fn add_strong(d: &mut Draft, c: u16, b: u16) -> u16
+pub(crate) fn add_strong(d: &mut Draft, c: u16, b: u16) -> u16
     requires sound { ⌜ Sound (now d) ⌝ }
     requires clock { ⌜ c < length (conditions-in (now d)) ⌝ }
     requires under { ⌜ b < length (conditions-in (now d)) ⌝ }
@@ -28,7 +28,7 @@ pub fn add_strong(d: &mut Draft, c: u16, b: u16) -> u16
 }
 
 // not ((not c)! U (c and not b)!)
-pub fn add_weak(d: &mut Draft, c: u16, b: u16) -> u16
+pub(crate) fn add_weak(d: &mut Draft, c: u16, b: u16) -> u16
     requires sound { ⌜ Sound (now d) ⌝ }
     requires clock { ⌜ c < length (conditions-in (now d)) ⌝ }
     requires under { ⌜ b < length (conditions-in (now d)) ⌝ }
@@ -41,7 +41,7 @@ pub fn add_weak(d: &mut Draft, c: u16, b: u16) -> u16
 }
 
 // not (c! and not f) U (c! and g)
-pub fn add_until(d: &mut Draft, c: u16, f: u16, g: u16) -> u16
+pub(crate) fn add_until(d: &mut Draft, c: u16, f: u16, g: u16) -> u16
     requires sound { ⌜ Sound (now d) ⌝ }
     requires clock { ⌜ c < length (conditions-in (now d)) ⌝ }
     requires left { ⌜ f < length (formulas-in (now d)) ⌝ }
@@ -73,7 +73,7 @@ fn on_tick(d: &mut Draft, wait: u16, tick: u16, g: u16) -> u16
 }
 
 // (not c)! U (c! and X! ((not c)! U (c! and g)))
-pub fn add_next(d: &mut Draft, c: u16, g: u16) -> u16
+pub(crate) fn add_next(d: &mut Draft, c: u16, g: u16) -> u16
     requires sound { ⌜ Sound (now d) ⌝ }
     requires clock { ⌜ c < length (conditions-in (now d)) ⌝ }
     requires under { ⌜ g < length (formulas-in (now d)) ⌝ }

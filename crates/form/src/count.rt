@@ -59,7 +59,7 @@ fn formula_adds(e: Formula) -> (usize, usize)
 }
 
 // The conditions and the sequences that the met pairs of sequences add.
-pub fn count_sequences(p: &Property, met: &[bool]) -> (usize, usize)
+pub(crate) fn count_sequences(p: &Property, met: &[bool]) -> (usize, usize)
     requires long { ⌜ length (now met) ≡ 4096 ⌝ }
     ensures conditions { λ r. ⌜ r .0 ≡ total (Is 0) sequence-adds-conditions (sequences-of (now (p .entry))) (now (met .entry)) (64 * length (sequences-of (now (p .entry)))) ⌝ }
     ensures sequences { λ r. ⌜ r .1 ≡ total (Is 0) sequence-adds-sequences (sequences-of (now (p .entry))) (now (met .entry)) (64 * length (sequences-of (now (p .entry)))) ⌝ }
@@ -79,7 +79,7 @@ pub fn count_sequences(p: &Property, met: &[bool]) -> (usize, usize)
 }
 
 // The conditions and the formulas that the met pairs of formulas add.
-pub fn count_formulas(p: &Property, met: &[bool]) -> (usize, usize)
+pub(crate) fn count_formulas(p: &Property, met: &[bool]) -> (usize, usize)
     requires long { ⌜ length (now met) ≡ 4096 ⌝ }
     ensures conditions { λ r. ⌜ r .0 ≡ total (Strong 0) formula-adds-conditions (formulas-of (now (p .entry))) (now (met .entry)) (64 * length (formulas-of (now (p .entry)))) ⌝ }
     ensures formulas { λ r. ⌜ r .1 ≡ total (Strong 0) formula-adds-formulas (formulas-of (now (p .entry))) (now (met .entry)) (64 * length (formulas-of (now (p .entry)))) ⌝ }
@@ -99,7 +99,7 @@ pub fn count_formulas(p: &Property, met: &[bool]) -> (usize, usize)
 }
 
 // How many entries the form of a property has whose met pairs are marked.
-pub fn count(p: &Property, fm: &[bool], sm: &[bool]) -> Counts
+pub(crate) fn count(p: &Property, fm: &[bool], sm: &[bool]) -> Counts
     requires long { ⌜ (length (now fm) ≡ 4096) × (length (now sm) ≡ 4096) ⌝ }
     requires met { ⌜ marks (now fm) (now sm) ≡ met (now p) ⌝ }
     ensures conditions { λ r. ⌜ r .conditions ≡ conditions-needed (now (p .entry)) ⌝ }
@@ -116,7 +116,7 @@ pub fn count(p: &Property, fm: &[bool], sm: &[bool]) -> Counts
 }
 
 // Whether a form's tables have room for so many entries.
-pub fn within_limits(counts: Counts) -> Result<(), Refusal>
+pub(crate) fn within_limits(counts: Counts) -> Result<(), Refusal>
     ensures { λ r. ⌜ Cases r (λ _. first-no (limits (counts .conditions) (counts .sequences) (counts .formulas)) ≡ none)
         (λ e. first-no (limits (counts .conditions) (counts .sequences) (counts .formulas)) ≡ some e) ⌝ }
 {

@@ -10,7 +10,7 @@ use crate::entries::sequence_at;
 use property::place::Property;
 use psl::entry::Sequence;
 
-pub fn put(met: &mut [bool], a: u16, c: usize)
+pub(crate) fn put(met: &mut [bool], a: u16, c: usize)
     requires long { ⌜ length (now met) ≡ 4096 ⌝ }
     requires inside { ⌜ (a < 64) × (c < 64) ⌝ }
     ensures { λ _. ⌜ now (met .exit) ≡ set (now (met .entry)) (64 * a + c) true ⌝ }
@@ -50,7 +50,7 @@ fn mark_sequence(p: &Property, met: &mut [bool], i: usize, c: usize)
 }
 
 // Marks, with each marked pair, those of its operands.
-pub fn mark_sequences(p: &Property, met: &mut [bool])
+pub(crate) fn mark_sequences(p: &Property, met: &mut [bool])
     requires long { ⌜ length (now met) ≡ 4096 ⌝ }
     ensures { λ _. ⌜ now (met .exit) ≡ meet-sequences (sequences-of (now (p .entry))) (64 * length (sequences-of (now (p .entry)))) (now (met .entry)) ⌝ }
 {

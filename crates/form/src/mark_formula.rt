@@ -45,7 +45,7 @@ fn mark_formula(p: &Property, fm: &mut [bool], sm: &mut [bool], i: usize, c: usi
 }
 
 // Marks, with each marked pair of a formula, those of its parts.
-pub fn mark_formulas(p: &Property, fm: &mut [bool], sm: &mut [bool])
+pub(crate) fn mark_formulas(p: &Property, fm: &mut [bool], sm: &mut [bool])
     requires long { ⌜ (length (now fm) ≡ 4096) × (length (now sm) ≡ 4096) ⌝ }
     ensures { λ _. ⌜ marks (now (fm .exit)) (now (sm .exit)) ≡ meet-formulas (formulas-of (now (p .entry))) (64 * length (formulas-of (now (p .entry)))) (marks (now (fm .entry)) (now (sm .entry))) ⌝ }
 {
@@ -62,7 +62,7 @@ pub fn mark_formulas(p: &Property, fm: &mut [bool], sm: &mut [bool])
 }
 
 // Marks the pairs of formulas and of sequences that are met.
-pub fn mark_met(p: &Property, fm: &mut [bool], sm: &mut [bool])
+pub(crate) fn mark_met(p: &Property, fm: &mut [bool], sm: &mut [bool])
     requires blank_formulas { ⌜ now fm ≡ unmarked ⌝ }
     requires blank_sequences { ⌜ now sm ≡ unmarked ⌝ }
     ensures { λ _. ⌜ marks (now (fm .exit)) (now (sm .exit)) ≡ met (now (p .entry)) ⌝ }

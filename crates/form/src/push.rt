@@ -13,7 +13,7 @@ use psl::entry::Condition;
 use psl::entry::Formula;
 use psl::entry::Sequence;
 
-pub fn add_condition(d: &mut Draft, e: Condition) -> u16
+pub(crate) fn add_condition(d: &mut Draft, e: Condition) -> u16
     requires sound { ⌜ Sound (now d) ⌝ }
     requires room { ⌜ (now d) .counts .conditions < 256 ⌝ }
     requires names { ⌜ condition-names (length (conditions-in (now d))) e ≡ true ⌝ }
@@ -25,7 +25,7 @@ pub fn add_condition(d: &mut Draft, e: Condition) -> u16
     n as u16
 }
 
-pub fn add_sequence(d: &mut Draft, e: Sequence) -> u16
+pub(crate) fn add_sequence(d: &mut Draft, e: Sequence) -> u16
     requires sound { ⌜ Sound (now d) ⌝ }
     requires room { ⌜ (now d) .counts .sequences < 256 ⌝ }
     requires names { ⌜ sequence-names (length (conditions-in (now d))) (length (sequences-in (now d))) e ≡ true ⌝ }
@@ -37,7 +37,7 @@ pub fn add_sequence(d: &mut Draft, e: Sequence) -> u16
     n as u16
 }
 
-pub fn add_formula(d: &mut Draft, e: Formula) -> u16
+pub(crate) fn add_formula(d: &mut Draft, e: Formula) -> u16
     requires sound { ⌜ Sound (now d) ⌝ }
     requires room { ⌜ (now d) .counts .formulas < 256 ⌝ }
     requires names { ⌜ formula-names (length (conditions-in (now d))) (length (sequences-in (now d))) (length (formulas-in (now d))) e ≡ true ⌝ }
@@ -50,7 +50,7 @@ pub fn add_formula(d: &mut Draft, e: Formula) -> u16
 }
 
 // The sequence that waits for the clock c, where b holds too: {not c}[*];{c and b}.
-pub fn tick(d: &mut Draft, c: u16, b: u16) -> u16
+pub(crate) fn tick(d: &mut Draft, c: u16, b: u16) -> u16
     requires sound { ⌜ Sound (now d) ⌝ }
     requires clock { ⌜ c < length (conditions-in (now d)) ⌝ }
     requires under { ⌜ b < length (conditions-in (now d)) ⌝ }

@@ -9,7 +9,6 @@ ghost use Rattle.form.specs.SequenceImages.{Fresh};
 ghost use Rattle.form.specs.Limits.{questions};
 ghost use Rattle.form.specs.Met.{marks, met};
 ghost use Rattle.form.specs.Rewritten.{Room-for, Rewritten, Rewrites};
-use crate::write_formula::write_formulas;
 use crate::count::count;
 use crate::count::within_limits;
 use crate::draft::Draft;
@@ -17,6 +16,7 @@ use crate::mark_formula::mark_met;
 use crate::refusal::Refusal;
 use crate::write::place;
 use crate::write::write_sequences;
+use crate::write_formula::write_formulas;
 use file::tables::Counts;
 use property::place::Property;
 use psl::entry::Condition;
@@ -69,7 +69,7 @@ fn rewrite(p: &Property, fm: &[bool], sm: &[bool]) -> (Draft, u16)
 }
 
 // The form of a property, and its root, if there is room.
-pub fn form_of(p: &Property) -> Result<(Draft, u16), Refusal>
+pub(crate) fn form_of(p: &Property) -> Result<(Draft, u16), Refusal>
     ensures { λ r. ⌜ Cases r (λ made. Rewrites (now (p .entry)) (made .0) (made .1)) (λ e. first-no (questions (now (p .entry))) ≡ some e) ⌝ }
 {
     let mut of_formulas = [false; 4096];

@@ -9,14 +9,14 @@ ghost use Rattle.form.specs.Draft.{Sound, Grows};
 ghost use Rattle.form.specs.Pairs.{sequence-adds-conditions, sequence-adds-sequences, total};
 ghost use Rattle.form.specs.SequenceImages.{Carries, For-operands, Sequence-placed, Wrote-sequence, Sequences-closed, Sequences-stand};
 use crate::draft::Draft;
+use crate::entries::sequence_at;
 use crate::push::add_sequence;
 use crate::push::tick;
-use crate::entries::sequence_at;
 use property::place::Property;
 use psl::entry::Sequence;
 
 // Where the image of a pair stands.
-pub fn place(places: &[u16], a: u16, c: usize) -> u16
+pub(crate) fn place(places: &[u16], a: u16, c: usize) -> u16
     requires long { ⌜ length (now places) ≡ 4096 ⌝ }
     requires inside { ⌜ (a < 64) × (c < 64) ⌝ }
     ensures { λ r. ⌜ r ≡ getD (now (places .entry)) (64 * a + c) 0 ⌝ }
@@ -25,7 +25,7 @@ pub fn place(places: &[u16], a: u16, c: usize) -> u16
 }
 
 // Adds the image of sequence i under clock c.
-pub fn write_sequence(p: &Property, d: &mut Draft, places: &[u16], i: usize, c: usize) -> u16
+pub(crate) fn write_sequence(p: &Property, d: &mut Draft, places: &[u16], i: usize, c: usize) -> u16
     requires long { ⌜ length (now places) ≡ 4096 ⌝ }
     requires sound { ⌜ Sound (now d) ⌝ }
     requires carries { ⌜ Carries (now p) (now d) ⌝ }
@@ -39,10 +39,22 @@ pub fn write_sequence(p: &Property, d: &mut Draft, places: &[u16], i: usize, c: 
 {
     match sequence_at(p, i) {
         Sequence::Condition(b) => tick(d, c as u16, b),
-        Sequence::Concat(a, b) => add_sequence(d, Sequence::Concat(place(places, a, c), place(places, b, c))),
-        Sequence::Fusion(a, b) => add_sequence(d, Sequence::Fusion(place(places, a, c), place(places, b, c))),
-        Sequence::Either(a, b) => add_sequence(d, Sequence::Either(place(places, a, c), place(places, b, c))),
-        Sequence::Both(a, b) => add_sequence(d, Sequence::Both(place(places, a, c), place(places, b, c))),
+        Sequence::Concat(a, b) => add_sequence(
+            d,
+            Sequence::Concat(place(places, a, c), place(places, b, c)),
+        ),
+        Sequence::Fusion(a, b) => add_sequence(
+            d,
+            Sequence::Fusion(place(places, a, c), place(places, b, c)),
+        ),
+        Sequence::Either(a, b) => add_sequence(
+            d,
+            Sequence::Either(place(places, a, c), place(places, b, c)),
+        ),
+        Sequence::Both(a, b) => add_sequence(
+            d,
+            Sequence::Both(place(places, a, c), place(places, b, c)),
+        ),
         Sequence::Empty => add_sequence(d, Sequence::Empty),
         Sequence::Star(a) => add_sequence(d, Sequence::Star(place(places, a, c))),
         Sequence::At(a, e) => place(places, a, e as usize),
@@ -50,7 +62,7 @@ pub fn write_sequence(p: &Property, d: &mut Draft, places: &[u16], i: usize, c: 
 }
 
 // Adds the image of each marked pair of a sequence and a clock.
-pub fn write_sequences(p: &Property, met: &[bool], d: &mut Draft, places: &mut [u16])
+pub(crate) fn write_sequences(p: &Property, met: &[bool], d: &mut Draft, places: &mut [u16])
     requires whole { ⌜ length (now met) ≡ 4096 ⌝ }
     requires long { ⌜ length (now places) ≡ 4096 ⌝ }
     requires sound { ⌜ Sound (now d) ⌝ }

@@ -13,14 +13,21 @@ use crate::build::add_strong;
 use crate::build::add_until;
 use crate::build::add_weak;
 use crate::draft::Draft;
+use crate::entries::formula_at;
 use crate::push::add_formula;
 use crate::write::place;
-use crate::entries::formula_at;
 use property::place::Property;
 use psl::entry::Formula;
 
 // Adds the image of formula i under clock c.
-pub fn write_formula(p: &Property, d: &mut Draft, sequences: &[u16], formulas: &[u16], i: usize, c: usize) -> u16
+pub(crate) fn write_formula(
+    p: &Property,
+    d: &mut Draft,
+    sequences: &[u16],
+    formulas: &[u16],
+    i: usize,
+    c: usize,
+) -> u16
     requires long { ⌜ (length (now sequences) ≡ 4096) × (length (now formulas) ≡ 4096) ⌝ }
     requires sound { ⌜ Sound (now d) ⌝ }
     requires carries { ⌜ Carries (now p) (now d) ⌝ }
@@ -35,20 +42,41 @@ pub fn write_formula(p: &Property, d: &mut Draft, sequences: &[u16], formulas: &
     match formula_at(p, i) {
         Formula::Strong(b) => add_strong(d, c as u16, b),
         Formula::Weak(b) => add_weak(d, c as u16, b),
-        Formula::StrongSequence(r) => add_formula(d, Formula::StrongSequence(place(sequences, r, c))),
+        Formula::StrongSequence(r) => add_formula(
+            d,
+            Formula::StrongSequence(place(sequences, r, c)),
+        ),
         Formula::WeakSequence(r) => add_formula(d, Formula::WeakSequence(place(sequences, r, c))),
         Formula::Not(f) => add_formula(d, Formula::Not(place(formulas, f, c))),
-        Formula::And(f, g) => add_formula(d, Formula::And(place(formulas, f, c), place(formulas, g, c))),
+        Formula::And(f, g) => add_formula(
+            d,
+            Formula::And(place(formulas, f, c), place(formulas, g, c)),
+        ),
         Formula::Next(f) => add_next(d, c as u16, place(formulas, f, c)),
-        Formula::Until(f, g) => add_until(d, c as u16, place(formulas, f, c), place(formulas, g, c)),
+        Formula::Until(f, g) => add_until(
+            d,
+            c as u16,
+            place(formulas, f, c),
+            place(formulas, g, c),
+        ),
         Formula::Abort(f, b) => add_formula(d, Formula::Abort(place(formulas, f, c), b)),
-        Formula::Implies(r, g) => add_formula(d, Formula::Implies(place(sequences, r, c), place(formulas, g, c))),
+        Formula::Implies(r, g) => add_formula(
+            d,
+            Formula::Implies(place(sequences, r, c), place(formulas, g, c)),
+        ),
         Formula::At(f, e) => place(formulas, f, e as usize),
     }
 }
 
 // Adds the image of each marked pair of a formula and a clock.
-pub fn write_formulas(p: &Property, fm: &[bool], sm: &[bool], d: &mut Draft, sequences: &[u16], places: &mut [u16])
+pub(crate) fn write_formulas(
+    p: &Property,
+    fm: &[bool],
+    sm: &[bool],
+    d: &mut Draft,
+    sequences: &[u16],
+    places: &mut [u16],
+)
     requires long { ⌜ (length (now fm) ≡ 4096) × (length (now sm) ≡ 4096) × (length (now sequences) ≡ 4096) × (length (now places) ≡ 4096) ⌝ }
     requires sound { ⌜ Sound (now d) ⌝ }
     requires carries { ⌜ Carries (now p) (now d) ⌝ }

@@ -26,11 +26,11 @@ returns c =
     let tick = formula-as (ap strong (keep-condition g12 clock .is)) (i3 .is) in
     let inner = formula-as (ap₂ until (wait3 .is) (ap₂ conjoined (tick .is) (keep-formula (c .pre .sound) g13 under .is))) (i4 .is) in
     let step = formula-as (ap next (inner .is)) (i5 .is) in
-    record
-    { sound = i6 .sound
-    ; grows = grows-twice g13 (grows-twice g45 (i6 .grows))
-    ; is = formula-as (ap₂ until (keep-formula (i3 .sound) g45 wait3 .is) (ap₂ conjoined (keep-formula (i3 .sound) g45 tick .is) (step .is))) (i6 .is)
-    ; count-c = omega (arith, i1 .count-c, i2 .count-c, i3 .count-c, i4 .count-c, i5 .count-c, i6 .count-c)
-    ; count-s = omega (arith, i1 .count-s, i2 .count-s, i3 .count-s, i4 .count-s, i5 .count-s, i6 .count-s)
-    ; count-f = omega (arith, i1 .count-f, i2 .count-f, i3 .count-f, i4 .count-f, i5 .count-f, i6 .count-f)
+    record {
+      sound = i6 .sound;
+      grows = grows-twice g13 (grows-twice g45 (i6 .grows));
+      is = formula-as (ap₂ until (keep-formula (i3 .sound) g45 wait3 .is) (ap₂ conjoined (keep-formula (i3 .sound) g45 tick .is) (step .is))) (i6 .is);
+      count-c = omega (arith, i1 .count-c, i2 .count-c, i3 .count-c, i4 .count-c, i5 .count-c, i6 .count-c);
+      count-s = omega (arith, i1 .count-s, i2 .count-s, i3 .count-s, i4 .count-s, i5 .count-s, i6 .count-s);
+      count-f = omega (arith, i1 .count-f, i2 .count-f, i3 .count-f, i4 .count-f, i5 .count-f, i6 .count-f);
     }

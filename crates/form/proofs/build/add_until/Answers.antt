@@ -24,11 +24,11 @@ returns c =
     let g34 = grows-twice (i3 .grows) (i4 .grows) in
     let g14 = grows-twice (i1 .grows) (grows-twice (i2 .grows) g34) in
     let last = formula-as (ap₂ conjoined (keep-formula (i2 .sound) g34 tick2 .is) (keep-formula (c .pre .sound) g14 right .is)) (i5 .is) in
-    record
-    { sound = i6 .sound
-    ; grows = grows-twice g14 (grows-twice (i5 .grows) (i6 .grows))
-    ; is = formula-as (ap₂ until (keep-formula (i4 .sound) (i5 .grows) fine .is) (last .is)) (i6 .is)
-    ; count-c = omega (arith, i1 .count-c, i2 .count-c, i3 .count-c, i4 .count-c, i5 .count-c, i6 .count-c)
-    ; count-s = omega (arith, i1 .count-s, i2 .count-s, i3 .count-s, i4 .count-s, i5 .count-s, i6 .count-s)
-    ; count-f = omega (arith, i1 .count-f, i2 .count-f, i3 .count-f, i4 .count-f, i5 .count-f, i6 .count-f)
+    record {
+      sound = i6 .sound;
+      grows = grows-twice g14 (grows-twice (i5 .grows) (i6 .grows));
+      is = formula-as (ap₂ until (keep-formula (i4 .sound) (i5 .grows) fine .is) (last .is)) (i6 .is);
+      count-c = omega (arith, i1 .count-c, i2 .count-c, i3 .count-c, i4 .count-c, i5 .count-c, i6 .count-c);
+      count-s = omega (arith, i1 .count-s, i2 .count-s, i3 .count-s, i4 .count-s, i5 .count-s, i6 .count-s);
+      count-f = omega (arith, i1 .count-f, i2 .count-f, i3 .count-f, i4 .count-f, i5 .count-f, i6 .count-f);
     }

@@ -15,11 +15,11 @@ returns c =
     let i3 = c .add-formula .ensures in
     let clock : Condition-is d (c .args .c) (condition-in d (c .args .c)) = record { there = c .pre .clock; is = refl } in
     let found = formula-as (ap₂ (λ t u. unclock t (strong u)) (keep-condition (i1 .grows) clock .is) (i1 .is .is)) (i2 .is) in
-    record
-    { sound = i3 .sound
-    ; grows = grows-twice (i1 .grows) (grows-twice (i2 .grows) (i3 .grows))
-    ; is = formula-as (ap negated (found .is)) (i3 .is)
-    ; count-c = omega (arith, i1 .count-c, i2 .count-c, i3 .count-c)
-    ; count-s = omega (arith, i1 .count-s, i2 .count-s, i3 .count-s)
-    ; count-f = omega (arith, i1 .count-f, i2 .count-f, i3 .count-f)
+    record {
+      sound = i3 .sound;
+      grows = grows-twice (i1 .grows) (grows-twice (i2 .grows) (i3 .grows));
+      is = formula-as (ap negated (found .is)) (i3 .is);
+      count-c = omega (arith, i1 .count-c, i2 .count-c, i3 .count-c);
+      count-s = omega (arith, i1 .count-s, i2 .count-s, i3 .count-s);
+      count-f = omega (arith, i1 .count-f, i2 .count-f, i3 .count-f);
     }

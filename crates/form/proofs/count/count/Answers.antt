@@ -19,9 +19,15 @@ returns c =
     let is-s = ap (λ m. m .sequences) (c .pre .met) in
     let first = c .count-sequences-of-sequences .ensures in
     let second = c .count-formulas-of-formulas .ensures in
-    record
-    { conditions = omega (arith, c .condition-count .ensures .value, first .conditions, second .conditions
-        , ap (λ x. total (s.Condition 0) sequence-adds-conditions (sequences-of p) x n) is-s, ap (λ x. total (f.Strong 0) formula-adds-conditions (formulas-of p) x m) is-f)
-    ; sequences = omega (arith, first .sequences, ap (λ x. total (s.Condition 0) sequence-adds-sequences (sequences-of p) x n) is-s)
-    ; formulas = omega (arith, second .formulas, ap (λ x. total (f.Strong 0) formula-adds-formulas (formulas-of p) x m) is-f)
+    record {
+      conditions = omega (
+        arith,
+        c .condition-count .ensures .value,
+        first .conditions,
+        second .conditions,
+        ap (λ x. total (s.Condition 0) sequence-adds-conditions (sequences-of p) x n) is-s,
+        ap (λ x. total (f.Strong 0) formula-adds-conditions (formulas-of p) x m) is-f,
+      );
+      sequences = omega (arith, first .sequences, ap (λ x. total (s.Condition 0) sequence-adds-sequences (sequences-of p) x n) is-s);
+      formulas = omega (arith, second .formulas, ap (λ x. total (f.Strong 0) formula-adds-formulas (formulas-of p) x m) is-f);
     }

@@ -11,9 +11,10 @@ pub loop-k-again-then-met-k : need.loop-k-again-then-met-k
 loop-k-again-then-met-k c =
     let rs = sequences-of (c .args .p .now) in
     let k = c .loop-k .k - 1 in
-    let up : c .loop-k .k ≡ k + 1 = omega (arith, c .loop-k-test .taken) in
-    ( ap (meet-sequences rs k) (c .mark-sequence .ensures) ∙ sym (meet-yes rs k (c .loop-k .met) (c .if-met-k .taken)) ∙ ap (λ j. meet-sequences rs j (c .loop-k .met)) (sym up) ∙ c .loop-k .inv .0
-    , omega (arith, c .loop-k .inv .1) )
+    let up : c .loop-k .k ≡ k + 1 = omega (arith, c .loop-k-test .taken) in (
+      ap (meet-sequences rs k) (c .mark-sequence .ensures) ∙ sym (meet-yes rs k (c .loop-k .met) (c .if-met-k .taken)) ∙ ap (λ j. meet-sequences rs j (c .loop-k .met)) (sym up) ∙ c .loop-k .inv .0,
+      omega (arith, c .loop-k .inv .1),
+    )
 
 pub loop-k-again : need.loop-k-again
 loop-k-again c =

@@ -12,10 +12,11 @@ loop-k-again-then-fm-k c =
     let fs = formulas-of (c .args .p .now) in
     let m = marks (c .loop-k .fm) (c .loop-k .sm) in
     let k = c .loop-k .k - 1 in
-    let up : c .loop-k .k ≡ k + 1 = omega (arith, c .loop-k-test .taken) in
-    ( ap₂ (λ x y. meet-formulas fs k (marks x y)) (c .mark-formula .ensures .formulas) (c .mark-formula .ensures .sequences) ∙ sym (meet-yes fs k m (c .if-fm-k .taken))
-      ∙ ap (λ j. meet-formulas fs j m) (sym up) ∙ c .loop-k .inv .0
-    , omega (arith, c .loop-k .inv .1) )
+    let up : c .loop-k .k ≡ k + 1 = omega (arith, c .loop-k-test .taken) in (
+      ap₂ (λ x y. meet-formulas fs k (marks x y)) (c .mark-formula .ensures .formulas) (c .mark-formula .ensures .sequences) ∙ sym (meet-yes fs k m (c .if-fm-k .taken))
+          ∙ ap (λ j. meet-formulas fs j m) (sym up) ∙ c .loop-k .inv .0,
+      omega (arith, c .loop-k .inv .1),
+    )
 
 pub loop-k-again : need.loop-k-again
 loop-k-again c =

@@ -24,9 +24,9 @@ returns c =
     let wait = sequence-as (ap condition (keep-condition (i2 .grows) (i1 .is) .is)) (i3 .is) in
     let waits = sequence-as (ap star (wait .is)) (i4 .is) in
     let last = sequence-as (ap condition (keep-condition g4 hit .is)) (i5 .is) in
-    record
-    { sound = i6 .sound
-    ; grows = grows-twice (i1 .grows) (grows-twice (i2 .grows) (grows-twice g4 (grows-twice (i5 .grows) (i6 .grows))))
-    ; is = sequence-as (ap₂ concat (keep-sequence (i4 .sound) (i5 .grows) waits .is) (last .is)) (i6 .is)
-    ; counts = (omega arith, omega arith, omega arith)
+    record {
+      sound = i6 .sound;
+      grows = grows-twice (i1 .grows) (grows-twice (i2 .grows) (grows-twice g4 (grows-twice (i5 .grows) (i6 .grows))));
+      is = sequence-as (ap₂ concat (keep-sequence (i4 .sound) (i5 .grows) waits .is) (last .is)) (i6 .is);
+      counts = (omega arith, omega arith, omega arith);
     }

@@ -16,4 +16,4 @@ returns c =
     let given = c .conditions-given .ensures .value in
     let count = c .condition-count-d .ensures .value in
     fresh-is p _ (ap (λ n. take n (c .copy .last .table)) (count ∙ ap length (sym given)) ∙ c .copy .ensures ∙ given) count
-      (search needs) (search needs) (search needs) (search needs) (search needs)
+    (search needs) (search needs) (search needs) (search needs) (search needs)

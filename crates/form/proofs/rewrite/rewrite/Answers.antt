@@ -24,13 +24,13 @@ write-sequences-requires c κs =
     let more-c = ap (λ m. total (s.Condition 0) sequence-adds-conditions (sequences-of p) m n) is in
     let more-s = ap (λ m. total (s.Condition 0) sequence-adds-sequences (sequences-of p) m n) is in
     let begun = c .fresh-d .ensures in
-    record
-    { whole = c .pre .long .1
-    ; long = search needs
-    ; sound = begun .sound
-    ; carries = begun .carries
-    ; closed = subst (Sequences-closed p) (sym is) (met-least p .closed .sequences)
-    ; room = (omega (arith, begun .count-c, c .pre .room .conditions, more-c), omega (arith, begun .count-s, c .pre .room .sequences, more-s))
+    record {
+      whole = c .pre .long .1;
+      long = search needs;
+      sound = begun .sound;
+      carries = begun .carries;
+      closed = subst (Sequences-closed p) (sym is) (met-least p .closed .sequences);
+      room = (omega (arith, begun .count-c, c .pre .room .conditions, more-c), omega (arith, begun .count-s, c .pre .room .sequences, more-s));
     }
 
 pub write-formulas-requires : need.write-formulas-requires
@@ -46,13 +46,13 @@ write-formulas-requires c κs =
     let more-f = ap (λ x. total (f.Strong 0) formula-adds-formulas (formulas-of p) x m) is-f in
     let begun = c .fresh-d .ensures in
     let stand = c .write-sequences .ensures in
-    record
-    { long = (c .pre .long .0, c .pre .long .1, stand .6, search needs)
-    ; sound = stand .0
-    ; carries = stand .2
-    ; closed = subst (λ x. Formulas-closed p x (c .args .sm .now)) (sym is-f) (subst (Formulas-closed p (met p .formulas)) (sym is-s) (met-least p .closed .formulas))
-    ; written = stand .3
-    ; room = (omega (arith, stand .4, begun .count-c, c .pre .room .conditions, from-s, more-c), omega (arith, stand .7, begun .count-f, c .pre .room .formulas, more-f))
+    record {
+      long = (c .pre .long .0, c .pre .long .1, stand .6, search needs);
+      sound = stand .0;
+      carries = stand .2;
+      closed = subst (λ x. Formulas-closed p x (c .args .sm .now)) (sym is-f) (subst (Formulas-closed p (met p .formulas)) (sym is-s) (met-least p .closed .formulas));
+      written = stand .3;
+      room = (omega (arith, stand .4, begun .count-c, c .pre .room .conditions, from-s, more-c), omega (arith, stand .7, begun .count-f, c .pre .room .formulas, more-f));
     }
 
 pub returns : need.returns
@@ -73,12 +73,12 @@ returns c =
     let root : Marked (c .args .fm .now) (length (formulas-of p) - 1) 0 = subst (λ x. Marked x (length (formulas-of p) - 1) 0) (sym is-f) (met-least p .closed .root) in
     let inside : key (length (formulas-of p) - 1) 0 < m = omega (arith, some-formulas p) in
     let count = c .formula-count .ensures in
-    record
-    { sound = stand .0
-    ; count-c = omega (arith, stand .4, low .4, begun .count-c, from-c, more-c)
-    ; count-s = omega (arith, stand .8, low .5, begun .count-s, from-s)
-    ; count-f = omega (arith, stand .5, low .7, begun .count-f, more-f)
-    ; is = subst (λ r. Formula-is (c .write-formulas .last .d) r (formula-image p (length (formulas-of p) - 1) 0))
-        (ap (λ j. getD (c .write-formulas .last .places) j 0) (omega (arith, count .value, count .low-bound, count .high-bound)) ∙ sym (c .place .ensures))
-        (stand .3 (length (formulas-of p) - 1) 0 (omega arith) inside root)
+    record {
+      sound = stand .0;
+      count-c = omega (arith, stand .4, low .4, begun .count-c, from-c, more-c);
+      count-s = omega (arith, stand .8, low .5, begun .count-s, from-s);
+      count-f = omega (arith, stand .5, low .7, begun .count-f, more-f);
+      is = subst (λ r. Formula-is (c .write-formulas .last .d) r (formula-image p (length (formulas-of p) - 1) 0))
+          (ap (λ j. getD (c .write-formulas .last .places) j 0) (omega (arith, count .value, count .low-bound, count .high-bound)) ∙ sym (c .place .ensures))
+          (stand .3 (length (formulas-of p) - 1) 0 (omega arith) inside root);
     }

@@ -18,11 +18,11 @@ use Rattle.form.proofs.write.write_sequence.Needs as need
 pub tick-requires : need.tick-requires
 tick-requires c κs =
     let told = c .in-Condition .ensures tt in
-    record
-    { sound = c .pre .sound
-    ; clock = c .pre .carries (c .args .c) (c .pre .clock) .there
-    ; under = c .pre .carries (c .in-Condition .b) (ltb-true _ _ (told .names)) .there
-    ; room = (omega (arith, c .pre .room .0, ap sequence-adds-conditions (told .is)), omega (arith, c .pre .room .1, ap sequence-adds-sequences (told .is)))
+    record {
+      sound = c .pre .sound;
+      clock = c .pre .carries (c .args .c) (c .pre .clock) .there;
+      under = c .pre .carries (c .in-Condition .b) (ltb-true _ _ (told .names)) .there;
+      room = (omega (arith, c .pre .room .0, ap sequence-adds-conditions (told .is)), omega (arith, c .pre .room .1, ap sequence-adds-sequences (told .is)));
     }
 
 pub returns-in-Condition : need.returns-in-Condition
@@ -34,13 +34,13 @@ returns-in-Condition c =
     let new = c .tick .ensures in
     let clock = c .pre .carries k (c .pre .clock) in
     let under = c .pre .carries (c .in-Condition .b) (ltb-true _ _ (told .names)) in
-    record
-    { sound = new .sound
-    ; grows = new .grows
-    ; is = sequence-as (ap₂ (λ t u. unclock-sequence t (condition u)) (clock .is) (under .is) ∙ sym (image-is p i k (c .pre .there) (s.Condition (c .in-Condition .b)) told)) (new .is)
-    ; count-c = omega (arith, new .counts .0, ap sequence-adds-conditions (told .is))
-    ; count-s = omega (arith, new .counts .1, ap sequence-adds-sequences (told .is))
-    ; count-f = new .counts .2
+    record {
+      sound = new .sound;
+      grows = new .grows;
+      is = sequence-as (ap₂ (λ t u. unclock-sequence t (condition u)) (clock .is) (under .is) ∙ sym (image-is p i k (c .pre .there) (s.Condition (c .in-Condition .b)) told)) (new .is);
+      count-c = omega (arith, new .counts .0, ap sequence-adds-conditions (told .is));
+      count-s = omega (arith, new .counts .1, ap sequence-adds-sequences (told .is));
+      count-f = new .counts .2;
     }
 
 pub returns-in-Concat : need.returns-in-Concat
@@ -53,9 +53,9 @@ returns-in-Concat c =
     let e = s.Concat (c .in-Concat .a) (c .in-Concat .b) in
     let ready = ready-at p i k (c .pre .there) d (c .args .places .now) e told (c .pre .ready) in
     wrote p i k (c .pre .there) d _ e told _ _ (c .add-sequence .ensures)
-      (ap₂ concat (operand p i k (c .pre .there) d (c .args .places .now) _ _ _ (c .place .ensures) (ready .0))
-        (operand p i k (c .pre .there) d (c .args .places .now) _ _ _ (c .place-in-Concat .ensures) (ready .1)))
-      refl refl
+    (ap₂ concat (operand p i k (c .pre .there) d (c .args .places .now) _ _ _ (c .place .ensures) (ready .0))
+    (operand p i k (c .pre .there) d (c .args .places .now) _ _ _ (c .place-in-Concat .ensures) (ready .1)))
+    refl refl
 
 pub returns-in-Fusion : need.returns-in-Fusion
 returns-in-Fusion c =
@@ -67,9 +67,9 @@ returns-in-Fusion c =
     let e = s.Fusion (c .in-Fusion .a) (c .in-Fusion .b) in
     let ready = ready-at p i k (c .pre .there) d (c .args .places .now) e told (c .pre .ready) in
     wrote p i k (c .pre .there) d _ e told _ _ (c .add-sequence-in-Fusion .ensures)
-      (ap₂ fusion (operand p i k (c .pre .there) d (c .args .places .now) _ _ _ (c .place-in-Fusion .ensures) (ready .0))
-        (operand p i k (c .pre .there) d (c .args .places .now) _ _ _ (c .place-in-Fusion-2 .ensures) (ready .1)))
-      refl refl
+    (ap₂ fusion (operand p i k (c .pre .there) d (c .args .places .now) _ _ _ (c .place-in-Fusion .ensures) (ready .0))
+    (operand p i k (c .pre .there) d (c .args .places .now) _ _ _ (c .place-in-Fusion-2 .ensures) (ready .1)))
+    refl refl
 
 pub returns-in-Either : need.returns-in-Either
 returns-in-Either c =
@@ -81,9 +81,9 @@ returns-in-Either c =
     let e = s.Either (c .in-Either .a) (c .in-Either .b) in
     let ready = ready-at p i k (c .pre .there) d (c .args .places .now) e told (c .pre .ready) in
     wrote p i k (c .pre .there) d _ e told _ _ (c .add-sequence-in-Either .ensures)
-      (ap₂ either (operand p i k (c .pre .there) d (c .args .places .now) _ _ _ (c .place-in-Either .ensures) (ready .0))
-        (operand p i k (c .pre .there) d (c .args .places .now) _ _ _ (c .place-in-Either-2 .ensures) (ready .1)))
-      refl refl
+    (ap₂ either (operand p i k (c .pre .there) d (c .args .places .now) _ _ _ (c .place-in-Either .ensures) (ready .0))
+    (operand p i k (c .pre .there) d (c .args .places .now) _ _ _ (c .place-in-Either-2 .ensures) (ready .1)))
+    refl refl
 
 pub returns-in-Both : need.returns-in-Both
 returns-in-Both c =
@@ -95,9 +95,9 @@ returns-in-Both c =
     let e = s.Both (c .in-Both .a) (c .in-Both .b) in
     let ready = ready-at p i k (c .pre .there) d (c .args .places .now) e told (c .pre .ready) in
     wrote p i k (c .pre .there) d _ e told _ _ (c .add-sequence-in-Both .ensures)
-      (ap₂ both (operand p i k (c .pre .there) d (c .args .places .now) _ _ _ (c .place-in-Both .ensures) (ready .0))
-        (operand p i k (c .pre .there) d (c .args .places .now) _ _ _ (c .place-in-Both-2 .ensures) (ready .1)))
-      refl refl
+    (ap₂ both (operand p i k (c .pre .there) d (c .args .places .now) _ _ _ (c .place-in-Both .ensures) (ready .0))
+    (operand p i k (c .pre .there) d (c .args .places .now) _ _ _ (c .place-in-Both-2 .ensures) (ready .1)))
+    refl refl
 
 pub returns-in-Empty : need.returns-in-Empty
 returns-in-Empty c =
@@ -113,7 +113,7 @@ returns-in-Star c =
     let e = s.Star (c .in-Star .a) in
     let ready = ready-at p i k (c .pre .there) d (c .args .places .now) e told (c .pre .ready) in
     wrote p i k (c .pre .there) d _ e told _ _ (c .add-sequence-in-Star .ensures)
-      (ap star (operand p i k (c .pre .there) d (c .args .places .now) _ _ _ (c .place-in-Star .ensures) ready)) refl refl
+    (ap star (operand p i k (c .pre .there) d (c .args .places .now) _ _ _ (c .place-in-Star .ensures) ready)) refl refl
 
 pub returns-in-At : need.returns-in-At
 returns-in-At c =
@@ -124,11 +124,11 @@ returns-in-At c =
     let told = c .in-At .ensures tt in
     let e = s.At (c .in-At .a) (c .in-At .e) in
     let ready = ready-at p i k (c .pre .there) d (c .args .places .now) e told (c .pre .ready) in
-    record
-    { sound = c .pre .sound
-    ; grows = grows-none d
-    ; is = subst (λ r. Sequence-is d r (sequence-image p i k)) (sym (c .place-in-At .ensures)) (sequence-as (sym (image-is p i k (c .pre .there) e told)) ready)
-    ; count-c = omega (arith, ap sequence-adds-conditions (told .is))
-    ; count-s = omega (arith, ap sequence-adds-sequences (told .is))
-    ; count-f = refl
+    record {
+      sound = c .pre .sound;
+      grows = grows-none d;
+      is = subst (λ r. Sequence-is d r (sequence-image p i k)) (sym (c .place-in-At .ensures)) (sequence-as (sym (image-is p i k (c .pre .there) e told)) ready);
+      count-c = omega (arith, ap sequence-adds-conditions (told .is));
+      count-s = omega (arith, ap sequence-adds-sequences (told .is));
+      count-f = refl;
     }

@@ -25,21 +25,21 @@ until-same {u = u} {x = x} {v = v} e g h = ap (λ t. until (negated (conjoined (
 pub add-strong-requires : need.add-strong-requires
 add-strong-requires c κs =
     let told = c .in-Strong .ensures tt in
-    record
-    { sound = c .pre .sound
-    ; clock = c .pre .carries (c .args .c) (c .pre .clock) .there
-    ; under = c .pre .carries (c .in-Strong .b) (ltb-true _ _ (told .names)) .there
-    ; room = (omega (arith, c .pre .room .0, ap formula-adds-conditions (told .is)), omega (arith, c .pre .room .1, ap formula-adds-formulas (told .is)))
+    record {
+      sound = c .pre .sound;
+      clock = c .pre .carries (c .args .c) (c .pre .clock) .there;
+      under = c .pre .carries (c .in-Strong .b) (ltb-true _ _ (told .names)) .there;
+      room = (omega (arith, c .pre .room .0, ap formula-adds-conditions (told .is)), omega (arith, c .pre .room .1, ap formula-adds-formulas (told .is)));
     }
 
 pub add-weak-requires : need.add-weak-requires
 add-weak-requires c κs =
     let told = c .in-Weak .ensures tt in
-    record
-    { sound = c .pre .sound
-    ; clock = c .pre .carries (c .args .c) (c .pre .clock) .there
-    ; under = c .pre .carries (c .in-Weak .b) (ltb-true _ _ (told .names)) .there
-    ; room = (omega (arith, c .pre .room .0, ap formula-adds-conditions (told .is)), omega (arith, c .pre .room .1, ap formula-adds-formulas (told .is)))
+    record {
+      sound = c .pre .sound;
+      clock = c .pre .carries (c .args .c) (c .pre .clock) .there;
+      under = c .pre .carries (c .in-Weak .b) (ltb-true _ _ (told .names)) .there;
+      room = (omega (arith, c .pre .room .0, ap formula-adds-conditions (told .is)), omega (arith, c .pre .room .1, ap formula-adds-formulas (told .is)));
     }
 
 pub add-formula-requires-in-Abort : need.add-formula-requires-in-Abort
@@ -47,10 +47,10 @@ add-formula-requires-in-Abort c κs =
     let told = c .in-Abort .ensures tt in
     let ready = ready-at (c .args .p .now) (c .args .i) (c .args .c) (c .pre .there) (c .args .d .now) (c .args .sequences .now) (c .args .formulas .now) (f.Abort (c .in-Abort .f) (c .in-Abort .b)) told (c .pre .ready) in
     let named = and-parts (ltb (c .in-Abort .f) (c .args .i)) _ (told .names) in
-    record
-    { sound = c .pre .sound
-    ; room = omega (arith, c .pre .room .1, ap formula-adds-formulas (told .is))
-    ; names = and-from _ _ (lt-ltb _ _ (subst (λ x. x < length (formulas-in (c .args .d .now))) (sym (c .place-in-Abort .ensures)) (ready .there))) (lt-ltb _ _ (c .pre .carries (c .in-Abort .b) (ltb-true _ _ (named .1)) .there))
+    record {
+      sound = c .pre .sound;
+      room = omega (arith, c .pre .room .1, ap formula-adds-formulas (told .is));
+      names = and-from _ _ (lt-ltb _ _ (subst (λ x. x < length (formulas-in (c .args .d .now))) (sym (c .place-in-Abort .ensures)) (ready .there))) (lt-ltb _ _ (c .pre .carries (c .in-Abort .b) (ltb-true _ _ (named .1)) .there));
     }
 
 pub returns-in-Strong : need.returns-in-Strong
@@ -168,7 +168,7 @@ returns-in-Until c =
     let ready = ready-at p i k there d rs fs e told (c .pre .ready) in
     let clock = c .pre .carries k (c .pre .clock) in
     built p i k there d _ e told _ _ _ _ (c .add-until .ensures)
-      (until-same (clock .is) (part p d fs _ _ _ (c .place-in-Until .ensures) (ready .0)) (part p d fs _ _ _ (c .place-in-Until-2 .ensures) (ready .1))) refl refl
+    (until-same (clock .is) (part p d fs _ _ _ (c .place-in-Until .ensures) (ready .0)) (part p d fs _ _ _ (c .place-in-Until-2 .ensures) (ready .1))) refl refl
 
 pub returns-in-Abort : need.returns-in-Abort
 returns-in-Abort c =
@@ -211,11 +211,11 @@ returns-in-At c =
     let told = c .in-At .ensures tt in
     let e = f.At (c .in-At .f) (c .in-At .e) in
     let ready = ready-at p i k there d rs fs e told (c .pre .ready) in
-    record
-    { sound = c .pre .sound
-    ; grows = grows-none d
-    ; is = subst (λ r. Formula-is d r (formula-image p i k)) (sym (c .place-in-At .ensures)) (formula-as (sym (image-is p i k there e told)) ready)
-    ; count-c = omega (arith, ap formula-adds-conditions (told .is))
-    ; count-s = refl
-    ; count-f = omega (arith, ap formula-adds-formulas (told .is))
+    record {
+      sound = c .pre .sound;
+      grows = grows-none d;
+      is = subst (λ r. Formula-is d r (formula-image p i k)) (sym (c .place-in-At .ensures)) (formula-as (sym (image-is p i k there e told)) ready);
+      count-c = omega (arith, ap formula-adds-conditions (told .is));
+      count-s = refl;
+      count-f = omega (arith, ap formula-adds-formulas (told .is));
     }

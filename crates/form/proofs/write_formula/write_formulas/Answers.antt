@@ -24,16 +24,16 @@ write-formula-r-requires c κs =
     let count = c .formula-count-n .ensures in
     let h : k < 64 * length (formulas-of p) = omega (arith, c .loop-k-test .taken, count .value) in
     let ready = ready-here p (c .args .fm .now) (c .args .sm .now) _ _ _ _ k inv (c .pre .closed) (c .if-fm-k .taken) h (omega (arith, c .condition-count-m .ensures .value, c .condition-count-m .ensures .high-bound)) in
-    record
-    { long = (c .pre .long .2, inv .6)
-    ; sound = inv .0
-    ; carries = inv .2
-    ; there = inside k (length (formulas-of p)) h
-    ; small = omega (arith, count .value, count .high-bound)
-    ; clock = ready .0
-    ; few = (omega (arith, c .condition-count-m .ensures .value, c .condition-count-m .ensures .high-bound), omega (arith, c .sequence-count-l .ensures .value, c .sequence-count-l .ensures .high-bound))
-    ; ready = ready .1
-    ; room = room-here p (c .args .fm .now) (c .args .sm .now) _ _ _ _ k inv _ h (c .if-fm-k .taken) (c .pre .room)
+    record {
+      long = (c .pre .long .2, inv .6);
+      sound = inv .0;
+      carries = inv .2;
+      there = inside k (length (formulas-of p)) h;
+      small = omega (arith, count .value, count .high-bound);
+      clock = ready .0;
+      few = (omega (arith, c .condition-count-m .ensures .value, c .condition-count-m .ensures .high-bound), omega (arith, c .sequence-count-l .ensures .value, c .sequence-count-l .ensures .high-bound));
+      ready = ready .1;
+      room = room-here p (c .args .fm .now) (c .args .sm .now) _ _ _ _ k inv _ h (c .if-fm-k .taken) (c .pre .room);
     }
 
 pub loop-k-again : need.loop-k-again
@@ -45,13 +45,13 @@ loop-k-again c =
     let inv = c .loop-k .inv in
     let k = c .loop-k .k in
     let few : k < 4096 = omega (arith, c .loop-k-test .taken, c .formula-count-n .ensures .high-bound) in
-    elim (c .if-fm-k .came)
-    [ then-fm-k w ↦
-        subst (λ d. Formulas-stand p fm sm (c .args .d .now) d sp (c .if-fm-k .places) (k + 1)) (sym (w .d-is))
-        (subst (λ ps. Formulas-stand p fm sm (c .args .d .now) (w .write-formula-r .last .d) sp ps (k + 1)) (sym (w .places-is))
+    elim (c .if-fm-k .came) [
+      | then-fm-k w ↦
+          subst (λ d. Formulas-stand p fm sm (c .args .d .now) d sp (c .if-fm-k .places) (k + 1)) (sym (w .d-is))
+          (subst (λ ps. Formulas-stand p fm sm (c .args .d .now) (w .write-formula-r .last .d) sp ps (k + 1)) (sym (w .places-is))
           (step-yes p fm sm _ _ _ _ k inv _ _ (w .if-fm-k .taken) few (w .write-formula-r .ensures)))
-    | else-fm-k w ↦
-        subst (λ d. Formulas-stand p fm sm (c .args .d .now) d sp (c .if-fm-k .places) (k + 1)) (sym (w .d-is))
-        (subst (λ ps. Formulas-stand p fm sm (c .args .d .now) (c .loop-k .d) sp ps (k + 1)) (sym (w .places-is))
+      | else-fm-k w ↦
+          subst (λ d. Formulas-stand p fm sm (c .args .d .now) d sp (c .if-fm-k .places) (k + 1)) (sym (w .d-is))
+          (subst (λ ps. Formulas-stand p fm sm (c .args .d .now) (c .loop-k .d) sp ps (k + 1)) (sym (w .places-is))
           (step-no p fm sm _ _ _ _ k inv (w .if-fm-k .left)))
     ]

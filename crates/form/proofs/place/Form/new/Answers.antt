@@ -9,13 +9,22 @@ use Rattle.form.proofs.place.Form.new.Needs as need
 pub ghost-result : need.ghost-result
 unfolding conditions sequences formulas
 ghost-result c =
-    let new = c .new .ensures in
-    ( (refl, refl, refl)
-    , ( (omega arith, omega arith, omega arith)
-    , ( first-condition
-    , ( (λ k h. refl)
-    , ( first-formula
-    , (new-made (c .new .result) _ 0 (omega arith) refl (new-rewriting (c .new .result) (new .conditions) (new .sequences) (new .formulas)), tt) ) ) ) ) )
+    let new = c .new .ensures in (
+      (refl, refl, refl),
+      (
+        (omega arith, omega arith, omega arith),
+        (
+          first-condition,
+          (
+            (λ k h. refl),
+            (
+              first-formula,
+              (new-made (c .new .result) _ 0 (omega arith) refl (new-rewriting (c .new .result) (new .conditions) (new .sequences) (new .formulas)), tt),
+            ),
+          ),
+        ),
+      ),
+    )
 
 pub returns : need.returns
 unfolding form-conditions form-sequences form-formulas form-root source

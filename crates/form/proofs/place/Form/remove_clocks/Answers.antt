@@ -7,13 +7,22 @@ pub ghost-self : need.ghost-self
 ghost-self c =
     let p = c .args .property .now in
     let is = c .in-Continue-made .ensures tt .rewritten in
-    let ok = is .sound in
-    ( (ok .long-c, ok .long-s, ok .long-f)
-    , ( (ok .few-c, ok .few-s, ok .few-f)
-    , ( ok .names-c
-    , ( ok .names
-    , ( ok .names-f
-    , (rewritten-made p _ _ is, tt) ) ) ) ) )
+    let ok = is .sound in (
+      (ok .long-c, ok .long-s, ok .long-f),
+      (
+        (ok .few-c, ok .few-s, ok .few-f),
+        (
+          ok .names-c,
+          (
+            ok .names,
+            (
+              ok .names-f,
+              (rewritten-made p _ _ is, tt),
+            ),
+          ),
+        ),
+      ),
+    )
 
 pub returns : need.returns
 returns c =

@@ -16,12 +16,7 @@ fn number(n: usize) -> u8 {
 }
 
 // Formula `body` of these rows under each of the first clocks, joined by "and".
-fn under_clocks(
-    heap: Global,
-    base: &[Row],
-    body: u8,
-    clocks: u8,
-) -> Result<Vec<Row>, AllocError> {
+fn under_clocks(heap: Global, base: &[Row], body: u8, clocks: u8) -> Result<Vec<Row>, AllocError> {
     let mut rows = Vec::new(heap);
     rows.extend_from_slice(base)?;
     let mut whole = body;

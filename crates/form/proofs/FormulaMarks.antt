@@ -7,7 +7,7 @@ use Prim.Native.Nat.{ℕ, zero, suc, _+_, _*_, _/_, _%_, _≤_, _<_}
 use native.Mathlib.Omega.{arith}
 use native.Mathlib.Numerals.{add-one}
 use lib.Dec.{ltb}
-use lib.ListN.{length, getD, set, length-set}
+use lib.ListN.{length, getD}
 use Rattle.std.proofs.shelf.Tests.{ltb-true, and-parts, cases-lt, both-ways}
 use Rattle.psl.specs.declared.entry.Formula as entryF
 use Rattle.psl.specs.declared.entry.Formula.the-variants as f
@@ -22,86 +22,30 @@ use Rattle.form.specs.Met as marks
 use Rattle.form.specs.Met.{with-formulas, with-sequences, with-parts, meet-formulas, Within, Clocks}
 use Rattle.form.proofs.SequenceSteps.{whole, inside, clock-small, entry-of, clock-of}
 use Rattle.form.proofs.FormulaSteps.{for-parts}
-use Rattle.form.proofs.SequenceMarks.{put-same, put-keeps, put-only, meets-one}
+use Rattle.form.proofs.PutMarks.{Put, none, one, single, double, meets-one}
 
 abbrev None : ℕ → ℕ → Type 0
 None a b = Unit {0}
 
--- what is known of marks after those that G speaks of were put, all below key top
-pub record Put (G : (ℕ → ℕ → Type 0) → Type 0) (top : ℕ) (met new : List Bool) : Type 1 where
-  pub long : length new ≡ length met
-  pub kept : (k : ℕ) → getD met k false ≡ true → getD new k false ≡ true
-  pub done : G (Marked new)
-  pub upper : (k : ℕ) → top ≤ k → getD new k false ≡ true → getD met k false ≡ true
-  pub only : (Q : ℕ → ℕ → Type 0) → G Q → (k : ℕ) → getD new k false ≡ true → (getD met k false ≡ true) ⊎ ((a : ℕ) × (b : ℕ) × (b < 64) × (k ≡ key a b) × Q a b)
-
-none : (G : (ℕ → ℕ → Type 0) → Type 0) (top : ℕ) (met : List Bool) → G (Marked met) → Put G top met met
-none G top met x = record { long = refl; kept = λ k m. m; done = x; upper = λ k h m. m; only = λ Q q k m. inl m }
-
-one : (G : (ℕ → ℕ → Type 0) → Type 0) (top : ℕ) (met : List Bool) (a b : ℕ) → key a b < top → b < 64 → key a b < length met
-    → ((P : ℕ → ℕ → Type 0) → P a b → G P) → ((Q : ℕ → ℕ → Type 0) → G Q → Q a b) → Put G top met (set met (key a b) true)
-one G top met a b l m h x g =
-    record {
-      long = length-set met (key a b) true;
-      kept = λ k y. put-keeps met (key a b) k h y;
-      done = x (Marked _) (put-same met (key a b) h);
-      upper = λ k u y. ⊎-elim (λ is. let z : ⊥ = omega arith in absurd z) (λ w. w) (put-only met (key a b) k h y);
-      only = λ Q q k y. ⊎-elim (λ is. inr (a, b, m, is, g Q q)) (λ w. inl w) (put-only met (key a b) k h y);
-    }
-
-two : (G : (ℕ → ℕ → Type 0) → Type 0) (top : ℕ) (met : List Bool) (a b c : ℕ) → key a c < top → key b c < top → c < 64 → key a c < length met → key b c < length met
-    → ((P : ℕ → ℕ → Type 0) → P a c → P b c → G P) → ((Q : ℕ → ℕ → Type 0) → G Q → Q a c × Q b c)
-    → Put G top met (set (set met (key a c) true) (key b c) true)
-two G top met a b c la lb m ha hb x g =
-    let long : length (set met (key a c) true) ≡ length met = length-set met (key a c) true in
-    let hb′ : key b c < length (set met (key a c) true) = omega arith in
-    record {
-      long = length-set (set met (key a c) true) (key b c) true ∙ long;
-      kept = λ k y. put-keeps _ (key b c) k hb′ (put-keeps met (key a c) k ha y);
-      done = x (Marked _) (put-keeps _ (key b c) (key a c) hb′ (put-same met (key a c) ha)) (put-same _ (key b c) hb′);
-      upper = λ k u y.
-          ⊎-elim (λ is. let z : ⊥ = omega arith in absurd z)
-          (λ w. ⊎-elim (λ is. let z : ⊥ = omega arith in absurd z) (λ v. v) (put-only met (key a c) k ha w)) (put-only _ (key b c) k hb′ y);
-      only = λ Q q k y.
-          ⊎-elim (λ is. inr (b, c, m, is, g Q q .1))
-          (λ w. ⊎-elim (λ is. inr (a, c, m, is, g Q q .0)) (λ v. inl v) (put-only met (key a c) k ha w)) (put-only _ (key b c) k hb′ y);
-    }
-
 module _ (n m i c : ℕ) (few : n ≤ 64) (few-m : m ≤ 64) (small : i ≤ 63) (l : c < 64) where
-  low : (a b : ℕ) → ltb a i ≡ true → b < 64 → key a b < 64 * i
-  low a b q r = let h = ltb-true a i q in omega arith
-
-  fits : (met : List Bool) (a b : ℕ) → length met ≡ 4096 → ltb a i ≡ true → b < 64 → key a b < length met
-  fits met a b long q r = let h = ltb-true a i q in omega arith
-
   fits-m : (met : List Bool) (a b : ℕ) → length met ≡ 4096 → ltb a m ≡ true → b < 64 → key a b < length met
   fits-m met a b long q r = let h = ltb-true a m q in omega arith
-
-  single : (G : (ℕ → ℕ → Type 0) → Type 0) (met : List Bool) (a b : ℕ) → length met ≡ 4096 → ltb a i ≡ true → b < 64
-      → ((P : ℕ → ℕ → Type 0) → P a b → G P) → ((Q : ℕ → ℕ → Type 0) → G Q → Q a b) → Put G (64 * i) met (set met (key a b) true)
-  single G met a b long q r x g = one G (64 * i) met a b (low a b q r) r (fits met a b long q r) x g
-
-  double : (G : (ℕ → ℕ → Type 0) → Type 0) (met : List Bool) (a b : ℕ) → length met ≡ 4096 → (ltb a i && ltb b i) ≡ true
-      → ((P : ℕ → ℕ → Type 0) → P a c → P b c → G P) → ((Q : ℕ → ℕ → Type 0) → G Q → Q a c × Q b c) → Put G (64 * i) met (set (set met (key a c) true) (key b c) true)
-  double G met a b long q x g =
-      let h = and-parts (ltb a i) (ltb b i) q in
-      two G (64 * i) met a b c (low a c (h .0) l) (low b c (h .1) l) l (fits met a c long (h .0) l) (fits met b c long (h .1) l) x g
 
   pub marked-f : (e : entryF.Formula) (met : List Bool) → length met ≡ 4096 → formula-names n m i e ≡ true → Put (λ P. For-parts P None e c) (64 * i) met (with-formulas e c met)
   marked-f (f.Strong a) met long q = none _ (64 * i) met tt
   marked-f (f.Weak a) met long q = none _ (64 * i) met tt
   marked-f (f.StrongSequence a) met long q = none _ (64 * i) met tt
   marked-f (f.WeakSequence a) met long q = none _ (64 * i) met tt
-  marked-f (f.Not a) met long q = single _ met a c long q l (λ P x. x) (λ Q x. x)
-  marked-f (f.And a b) met long q = double _ met a b long q (λ P x y. (x, y)) (λ Q x. x)
-  marked-f (f.Next a) met long q = single _ met a c long q l (λ P x. x) (λ Q x. x)
-  marked-f (f.Until a b) met long q = double _ met a b long q (λ P x y. (x, y)) (λ Q x. x)
-  marked-f (f.Abort a b) met long q = single _ met a c long (and-parts (ltb a i) _ q .0) l (λ P x. x) (λ Q x. x)
-  marked-f (f.Implies a b) met long q = single _ met b c long (and-parts (ltb a m) _ q .1) l (λ P x. (tt, x)) (λ Q x. x .1)
+  marked-f (f.Not a) met long q = single i c small l _ met a c long q l (λ P x. x) (λ Q x. x)
+  marked-f (f.And a b) met long q = double i c small l _ met a b long q (λ P x y. (x, y)) (λ Q x. x)
+  marked-f (f.Next a) met long q = single i c small l _ met a c long q l (λ P x. x) (λ Q x. x)
+  marked-f (f.Until a b) met long q = double i c small l _ met a b long q (λ P x y. (x, y)) (λ Q x. x)
+  marked-f (f.Abort a b) met long q = single i c small l _ met a c long (and-parts (ltb a i) _ q .0) l (λ P x. x) (λ Q x. x)
+  marked-f (f.Implies a b) met long q = single i c small l _ met b c long (and-parts (ltb a m) _ q .1) l (λ P x. (tt, x)) (λ Q x. x .1)
   marked-f (f.At a d) met long q =
       let h = and-parts (ltb a i) (ltb d n) q in
       let r : d < 64 = omega (arith, ltb-true d n (h .1)) in
-      single _ met a d long (h .0) r (λ P x. x) (λ Q x. x)
+      single i c small l _ met a d long (h .0) r (λ P x. x) (λ Q x. x)
 
   pub marked-s : (e : entryF.Formula) (met : List Bool) → length met ≡ 4096 → formula-names n m i e ≡ true → Put (λ R. For-parts None R e c) 4096 met (with-sequences e c met)
   marked-s (f.Strong a) met long q = none _ 4096 met tt

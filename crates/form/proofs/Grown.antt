@@ -21,7 +21,7 @@ use Rattle.psl.specs.declared.entry.Formula.the-variants as f
 use Rattle.psl.proofs.Grow.{grow-push, grow-take, length-grow}
 use Rattle.file.specs.Operands.{condition-names, sequence-names, formula-names}
 use Rattle.form.specs.declared.draft.Draft as code
-use Rattle.form.specs.Draft.{conditions-in, sequences-in, formulas-in, Sound, Condition-is, Sequence-is, Formula-is, Grows, Added-formula}
+use Rattle.form.specs.Draft.{conditions-in, sequences-in, formulas-in, Sound, Condition-is, Sequence-is, Formula-is, Grows, Added-formula, All-named}
 
 -- an entry of the front
 prefix-at : {E T : Type 0} (build : List T → E → T) (es xs : List E) (k : ℕ) (d : T) → k < length es
@@ -48,20 +48,24 @@ sequence-same n cs ds x acc i s.Empty h p = refl
 sequence-same n cs ds x acc i (s.Star a) h p = refl
 sequence-same n cs ds x acc i (s.At a b) h p = ap (sequence-at (getD acc a empty)) (h b (ltb-true b n (and-parts (ltb a i) _ p .1)))
 
-grow-same : (n : ℕ) (cs ds : List Condition) (acc : List Sequence) (es : List entryS.Sequence) (j : ℕ) → ((a : ℕ) → a < n → getD ds a falsity ≡ getD cs a falsity)
-    → ((k : ℕ) → k < length es → sequence-names n (j + k) (getD es k (s.Condition 0)) ≡ true)
-    → grow (sequence-of ds) acc es ≡ grow (sequence-of cs) acc es
-grow-same n cs ds acc [] j h names = refl
-grow-same n cs ds acc (e ∷ es) j h names =
-    ap (λ x. grow (sequence-of ds) (acc ++ (x ∷ [])) es) (sequence-same n cs ds cs acc (j + 0) e h (names 0 (omega arith)))
-    ∙ grow-same n cs ds (acc ++ (sequence-of cs acc e ∷ [])) es (suc j) h
-    (λ k l. let m : j + suc k ≡ suc j + k = omega arith in subst (λ i. sequence-names n i (getD es k (s.Condition 0)) ≡ true) m (names (suc k) (omega arith)))
+-- two ways of building that agree on each entry that is named grow the same trees
+grow-same : {E T : Type 0} (left right : List T → E → T) (names : ℕ → E → Bool) (first : E) → ((acc : List T) (i : ℕ) (e : E) → names i e ≡ true → left acc e ≡ right acc e)
+    → (acc : List T) (es : List E) (j : ℕ) → ((k : ℕ) → k < length es → names (j + k) (getD es k first) ≡ true) → grow left acc es ≡ grow right acc es
+grow-same left right names first same acc [] j named = refl
+grow-same left right names first same acc (e ∷ es) j named =
+    ap (λ x. grow left (acc ++ (x ∷ [])) es) (same acc (j + 0) e (named 0 (omega arith)))
+    ∙ grow-same left right names first same (acc ++ (right acc e ∷ [])) es (suc j)
+    (λ k l. let m : j + suc k ≡ suc j + k = omega arith in subst (λ i. names i (getD es k first) ≡ true) m (named (suc k) (omega arith)))
+
+from-0 : {E : Type 0} (names : ℕ → E → Bool) (first : E) (es : List E) → All-named names first es → (k : ℕ) → k < length es → names (0 + k) (getD es k first) ≡ true
+from-0 names first es named k l = let m : k ≡ 0 + k = omega arith in subst (λ i. names i (getD es k first) ≡ true) m (named k l)
 
 sequences-same : (n : ℕ) (cs ds : List Condition) (es : List entryS.Sequence) → ((a : ℕ) → a < n → getD ds a falsity ≡ getD cs a falsity)
-    → ((k : ℕ) → k < length es → sequence-names n k (getD es k (s.Condition 0)) ≡ true) → sequences ds es ≡ sequences cs es
+    → All-named (sequence-names n) (s.Condition 0) es → sequences ds es ≡ sequences cs es
 unfolding sequences
 sequences-same n cs ds es h names =
-    grow-same n cs ds [] es 0 h (λ k l. let m : k ≡ 0 + k = omega arith in subst (λ i. sequence-names n i (getD es k (s.Condition 0)) ≡ true) m (names k l))
+    grow-same (sequence-of ds) (sequence-of cs) (sequence-names n) (s.Condition 0) (λ acc i e q. sequence-same n cs ds cs acc i e h q) [] es 0
+    (from-0 (sequence-names n) (s.Condition 0) es names)
 
 conditions-front : (es xs : List entryC.Condition) (k : ℕ) → k < length es → getD (conditions (es ++ xs)) k falsity ≡ getD (conditions es) k falsity
 unfolding conditions
@@ -147,22 +151,13 @@ formula-same n m cs ds rs us acc i (f.Abort a b) h k p = ap (abort (getD acc a n
 formula-same n m cs ds rs us acc i (f.Implies a b) h k p = ap (λ r. implies r (getD acc b nothing)) (k a (ltb-true a m (and-parts (ltb a m) _ p .0)))
 formula-same n m cs ds rs us acc i (f.At a b) h k p = ap (formula-at (getD acc a nothing)) (h b (ltb-true b n (and-parts (ltb a i) _ p .1)))
 
-grow-same-f : (n m : ℕ) (cs ds : List Condition) (rs us : List Sequence) (acc : List Formula) (es : List entryF.Formula) (j : ℕ)
-    → ((a : ℕ) → a < n → getD ds a falsity ≡ getD cs a falsity) → ((a : ℕ) → a < m → getD us a empty ≡ getD rs a empty)
-    → ((k : ℕ) → k < length es → formula-names n m (j + k) (getD es k (f.Strong 0)) ≡ true)
-    → grow (formula-of ds us) acc es ≡ grow (formula-of cs rs) acc es
-grow-same-f n m cs ds rs us acc [] j h k names = refl
-grow-same-f n m cs ds rs us acc (e ∷ es) j h k names =
-    ap (λ x. grow (formula-of ds us) (acc ++ (x ∷ [])) es) (formula-same n m cs ds rs us acc (j + 0) e h k (names 0 (omega arith)))
-    ∙ grow-same-f n m cs ds rs us (acc ++ (formula-of cs rs acc e ∷ [])) es (suc j) h k
-    (λ x l. let q : j + suc x ≡ suc j + x = omega arith in subst (λ i. formula-names n m i (getD es x (f.Strong 0)) ≡ true) q (names (suc x) (omega arith)))
-
 formulas-same : (n m : ℕ) (cs ds : List Condition) (rs us : List Sequence) (es : List entryF.Formula)
     → ((a : ℕ) → a < n → getD ds a falsity ≡ getD cs a falsity) → ((a : ℕ) → a < m → getD us a empty ≡ getD rs a empty)
-    → ((k : ℕ) → k < length es → formula-names n m k (getD es k (f.Strong 0)) ≡ true) → formulas ds us es ≡ formulas cs rs es
+    → All-named (formula-names n m) (f.Strong 0) es → formulas ds us es ≡ formulas cs rs es
 unfolding formulas
 formulas-same n m cs ds rs us es h k names =
-    grow-same-f n m cs ds rs us [] es 0 h k (λ x l. let q : x ≡ 0 + x = omega arith in subst (λ i. formula-names n m i (getD es x (f.Strong 0)) ≡ true) q (names x l))
+    grow-same (formula-of ds us) (formula-of cs rs) (formula-names n m) (f.Strong 0) (λ acc i e q. formula-same n m cs ds rs us acc i e h k q) [] es 0
+    (from-0 (formula-names n m) (f.Strong 0) es names)
 
 formulas-front : (cs : List Condition) (rs : List Sequence) (es xs : List entryF.Formula) (k : ℕ) → k < length es → getD (formulas cs rs (es ++ xs)) k nothing ≡ getD (formulas cs rs es) k nothing
 unfolding formulas

@@ -3,6 +3,7 @@ pub mod Grown
 pub mod Totals
 pub mod SequenceImages
 pub mod SequenceSteps
+pub mod PutMarks
 pub mod SequenceMarks
 pub mod FormulaImages
 pub mod FormulaSteps

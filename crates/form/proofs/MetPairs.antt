@@ -17,7 +17,7 @@ use Rattle.form.specs.FormulaImages.{Formulas-closed}
 use Rattle.form.specs.Met.{Marks, unmarked, root-marked, formulas-met, met, meet-sequences, meet-formulas, Within, Clocks, Closed, Least-closed}
 use Rattle.form.proofs.FormulaSteps.{for-parts}
 use Rattle.form.proofs.SequenceMarks as sequence
-use Rattle.form.proofs.SequenceMarks.{put-same, put-only}
+use Rattle.form.proofs.PutMarks.{put-same, put-only}
 use Rattle.form.proofs.FormulaMarks as formula
 
 replicate-at : (n k : ℕ) → getD (replicate n false) k false ≡ false

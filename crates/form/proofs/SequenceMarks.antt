@@ -7,9 +7,8 @@ use Prim.Native.Nat.{ℕ, zero, suc, _+_, _*_, _/_, _%_, _≤_, _<_}
 use native.Mathlib.Omega.{arith}
 use native.Mathlib.Numerals.{add-one}
 use lib.Dec.{ltb}
-use lib.ListN.{length, getD, set, length-set}
-use lib.Seq.{getD-set-same, getD-set-other}
-use Rattle.std.proofs.shelf.Tests.{ltb-true, and-parts, cases-lt, cases-eq, both-ways}
+use lib.ListN.{length, getD}
+use Rattle.std.proofs.shelf.Tests.{ltb-true, and-parts, cases-lt, both-ways}
 use Rattle.psl.specs.declared.entry.Sequence as entryS
 use Rattle.psl.specs.declared.entry.Sequence.the-variants as s
 use Rattle.file.specs.Operands.{sequence-names}
@@ -19,90 +18,23 @@ use Rattle.form.proofs.Held.{held-sequence}
 use Rattle.form.specs.Pairs.{key}
 use Rattle.form.specs.SequenceImages.{For-operands, Marked, Sequences-closed}
 use Rattle.form.specs.Met.{with-operands, meet-sequences, Within, Clocks}
+use Rattle.form.proofs.PutMarks.{Put, none, single, double, meets-one}
 use Rattle.form.proofs.SequenceSteps.{for-operands, whole, inside, clock-small, entry-of, clock-of}
 
--- a mark that is put
-pub put-same : (met : List Bool) (m : ℕ) → m < length met → getD (set met m true) m false ≡ true
-put-same met m h = getD-set-same met m true false h
-
-pub put-keeps : (met : List Bool) (m k : ℕ) → m < length met → getD met k false ≡ true → getD (set met m true) k false ≡ true
-put-keeps met m k h e =
-    ⊎-elim (λ is. ap (λ j. getD (set met m true) j false) is ∙ put-same met m h) (λ ne. getD-set-other met m k true false ne ∙ e) (cases-eq k m)
-
-pub put-only : (met : List Bool) (m k : ℕ) → m < length met → getD (set met m true) k false ≡ true → (k ≡ m) ⊎ (getD met k false ≡ true)
-put-only met m k h e = ⊎-elim (λ is. inl is) (λ ne. inr (sym (getD-set-other met m k true false ne) ∙ e)) (cases-eq k m)
-
-key-fits : (met : List Bool) (i a c : ℕ) → length met ≡ 4096 → i ≤ 63 → a < i → c < 64 → key a c < length met
-key-fits met i a c long small h l = omega arith
-
--- what is known of marks after the operands of entry i under c were marked
-pub record Put (e : entryS.Sequence) (i c : ℕ) (met new : List Bool) : Type 1 where
-  pub long : length new ≡ length met
-  pub kept : (k : ℕ) → getD met k false ≡ true → getD new k false ≡ true
-  pub done : For-operands (Marked new) e c
-  pub upper : (k : ℕ) → 64 * i ≤ k → getD new k false ≡ true → getD met k false ≡ true
-  pub only : (Q : ℕ → ℕ → Type 0) → For-operands Q e c → (k : ℕ) → getD new k false ≡ true → (getD met k false ≡ true) ⊎ ((a : ℕ) × (b : ℕ) × (b < 64) × (k ≡ key a b) × Q a b)
-
-none : (e : entryS.Sequence) (i c : ℕ) (met : List Bool) → For-operands (Marked met) e c → Put e i c met met
-none e i c met f = record { long = refl; kept = λ k m. m; done = f; upper = λ k h m. m; only = λ Q f k m. inl m }
-
-one : (e : entryS.Sequence) (i c : ℕ) (met : List Bool) (a b : ℕ) → a < i → b < 64 → key a b < length met
-    → (Marked (set met (key a b) true) a b → For-operands (Marked (set met (key a b) true)) e c)
-    → ((Q : ℕ → ℕ → Type 0) → For-operands Q e c → Q a b) → Put e i c met (set met (key a b) true)
-one e i c met a b l m h f g =
-    record {
-      long = length-set met (key a b) true;
-      kept = λ k x. put-keeps met (key a b) k h x;
-      done = f (put-same met (key a b) h);
-      upper = λ k u x. ⊎-elim (λ is. let z : ⊥ = omega arith in absurd z) (λ y. y) (put-only met (key a b) k h x);
-      only = λ Q q k x. ⊎-elim (λ is. inr (a, b, m, is, g Q q)) (λ y. inl y) (put-only met (key a b) k h x);
-    }
-
-two : (e : entryS.Sequence) (i c : ℕ) (met : List Bool) (a b : ℕ) → a < i → b < i → c < 64 → key a c < length met → key b c < length met
-    → ((P : ℕ → ℕ → Type 0) → P a c → P b c → For-operands P e c) → ((Q : ℕ → ℕ → Type 0) → For-operands Q e c → Q a c × Q b c)
-    → Put e i c met (set (set met (key a c) true) (key b c) true)
-two e i c met a b la lb m ha hb f g =
-    let long : length (set met (key a c) true) ≡ length met = length-set met (key a c) true in
-    let hb′ : key b c < length (set met (key a c) true) = omega arith in
-    record {
-      long = length-set (set met (key a c) true) (key b c) true ∙ long;
-      kept = λ k x. put-keeps _ (key b c) k hb′ (put-keeps met (key a c) k ha x);
-      done = f (Marked _) (put-keeps _ (key b c) (key a c) hb′ (put-same met (key a c) ha)) (put-same _ (key b c) hb′);
-      upper = λ k u x.
-          ⊎-elim (λ is. let z : ⊥ = omega arith in absurd z)
-          (λ y. ⊎-elim (λ is. let z : ⊥ = omega arith in absurd z) (λ w. w) (put-only met (key a c) k ha y)) (put-only _ (key b c) k hb′ x);
-      only = λ Q q k x.
-          ⊎-elim (λ is. inr (b, c, m, is, g Q q .1))
-          (λ y. ⊎-elim (λ is. inr (a, c, m, is, g Q q .0)) (λ w. inl w) (put-only met (key a c) k ha y)) (put-only _ (key b c) k hb′ x);
-    }
-
-pub marked : (n i c : ℕ) (e : entryS.Sequence) (met : List Bool) → n ≤ 64 → i ≤ 63 → c < 64 → length met ≡ 4096 → sequence-names n i e ≡ true → Put e i c met (with-operands e c met)
-marked n i c (s.Condition a) met few small l long names = none (s.Condition a) i c met tt
-marked n i c (s.Concat a b) met few small l long names =
-    let h = and-parts (ltb a i) (ltb b i) names in
-    let ha = ltb-true a i (h .0) in let hb = ltb-true b i (h .1) in
-    two (s.Concat a b) i c met a b ha hb l (key-fits met i a c long small ha l) (key-fits met i b c long small hb l) (λ P x y. (x, y)) (λ Q q. q)
-marked n i c (s.Fusion a b) met few small l long names =
-    let h = and-parts (ltb a i) (ltb b i) names in
-    let ha = ltb-true a i (h .0) in let hb = ltb-true b i (h .1) in
-    two (s.Fusion a b) i c met a b ha hb l (key-fits met i a c long small ha l) (key-fits met i b c long small hb l) (λ P x y. (x, y)) (λ Q q. q)
-marked n i c (s.Either a b) met few small l long names =
-    let h = and-parts (ltb a i) (ltb b i) names in
-    let ha = ltb-true a i (h .0) in let hb = ltb-true b i (h .1) in
-    two (s.Either a b) i c met a b ha hb l (key-fits met i a c long small ha l) (key-fits met i b c long small hb l) (λ P x y. (x, y)) (λ Q q. q)
-marked n i c (s.Both a b) met few small l long names =
-    let h = and-parts (ltb a i) (ltb b i) names in
-    let ha = ltb-true a i (h .0) in let hb = ltb-true b i (h .1) in
-    two (s.Both a b) i c met a b ha hb l (key-fits met i a c long small ha l) (key-fits met i b c long small hb l) (λ P x y. (x, y)) (λ Q q. q)
-marked n i c s.Empty met few small l long names = none s.Empty i c met tt
-marked n i c (s.Star a) met few small l long names =
-    let ha = ltb-true a i names in
-    one (s.Star a) i c met a c ha l (key-fits met i a c long small ha l) (λ x. x) (λ Q q. q)
-marked n i c (s.At a d) met few small l long names =
-    let h = and-parts (ltb a i) (ltb d n) names in
-    let ha = ltb-true a i (h .0) in
-    let hd : d < 64 = omega (arith, ltb-true d n (h .1)) in
-    one (s.At a d) i c met a d ha hd (key-fits met i a d long small ha hd) (λ x. x) (λ Q q. q)
+-- the marks of a sequence's operands
+marked : (n i c : ℕ) → n ≤ 64 → (small : i ≤ 63) (l : c < 64) (e : entryS.Sequence) (met : List Bool) → length met ≡ 4096 → sequence-names n i e ≡ true
+    → Put (λ P. For-operands P e c) (64 * i) met (with-operands e c met)
+marked n i c few small l (s.Condition a) met long q = none _ (64 * i) met tt
+marked n i c few small l (s.Concat a b) met long q = double i c small l _ met a b long q (λ P x y. (x, y)) (λ Q x. x)
+marked n i c few small l (s.Fusion a b) met long q = double i c small l _ met a b long q (λ P x y. (x, y)) (λ Q x. x)
+marked n i c few small l (s.Either a b) met long q = double i c small l _ met a b long q (λ P x y. (x, y)) (λ Q x. x)
+marked n i c few small l (s.Both a b) met long q = double i c small l _ met a b long q (λ P x y. (x, y)) (λ Q x. x)
+marked n i c few small l s.Empty met long q = none _ (64 * i) met tt
+marked n i c few small l (s.Star a) met long q = single i c small l _ met a c long q l (λ P x. x) (λ Q x. x)
+marked n i c few small l (s.At a d) met long q =
+    let h = and-parts (ltb a i) (ltb d n) q in
+    let r : d < 64 = omega (arith, ltb-true d n (h .1)) in
+    single i c small l _ met a d long (h .0) r (λ P x. x) (λ Q x. x)
 
 clocks-of : (n i c : ℕ) (e : entryS.Sequence) → c < n → sequence-names n i e ≡ true → For-operands (λ a b. b < n) e c
 clocks-of n i c (s.Condition a) h names = tt
@@ -174,8 +106,8 @@ module _ (p : Property) (few : length (conditions-of p) ≤ 64) (few-s : length 
       clock : k % 64 < length (conditions-of p)
       clock = inv .1 (k / 64) (k % 64) (clock-small k) here
 
-      new : Put (entry p (k / 64)) (k / 64) (k % 64) met (with-operands (entry p (k / 64)) (k % 64) met)
-      new = marked (length (conditions-of p)) (k / 64) (k % 64) (entry p (k / 64)) met few (omega arith) (clock-small k) (inv .4) names
+      new : Put (λ P. For-operands P (entry p (k / 64)) (k % 64)) (64 * (k / 64)) met (with-operands (entry p (k / 64)) (k % 64) met)
+      new = marked (length (conditions-of p)) (k / 64) (k % 64) few (omega arith) (clock-small k) (entry p (k / 64)) met (inv .4) names
 
       spread : (i c : ℕ) → c < 64 → i < length (sequences-of p) → For-operands (Marked met) (entry p i) c → For-operands (Marked (with-operands (entry p (k / 64)) (k % 64) met)) (entry p i) c
       spread i c l at x =
@@ -184,11 +116,6 @@ module _ (p : Property) (few : length (conditions-of p) ≤ 64) (few-s : length 
 -- before the first key
 pub start : (p : Property) (seed : List Bool) → Clocks p seed → length seed ≡ 4096 → Inv p seed seed (64 * length (sequences-of p))
 start p seed clocks long = ((λ i c l m. m), clocks, (λ i c there l u m. let z : ⊥ = omega arith in absurd z), (λ other closed in-seed. in-seed), long)
-
--- by going down over one key
-pub meets-one : {M : Type 0} (b : Bool) (P Q : M → Type 0) (x y : M) → ((z : M) → P z → Q z) → (b ≡ true → P x) → (b ≡ false → P y) → Q (cond b x y)
-meets-one true P Q x y down yes-case no-case = down x (yes-case refl)
-meets-one false P Q x y down yes-case no-case = down y (no-case refl)
 
 -- by going down over all keys below k
 pub meets : (p : Property) → length (conditions-of p) ≤ 64 → length (sequences-of p) ≤ 64 → (seed : List Bool) (k : ℕ) → k ≤ 64 * length (sequences-of p)

@@ -23,48 +23,37 @@ use psl::entry::Formula;
 pub(crate) fn write_formula(
     p: &Property,
     d: &mut Draft,
-    sequences: &[u16],
-    formulas: &[u16],
+    rs: &[u16],
+    fs: &[u16],
     i: usize,
     c: usize,
 ) -> u16
-    requires long { ⌜ (length (now sequences) ≡ 4096) × (length (now formulas) ≡ 4096) ⌝ }
+    requires long { ⌜ (length (now rs) ≡ 4096) × (length (now fs) ≡ 4096) ⌝ }
     requires sound { ⌜ Sound (now d) ⌝ }
     requires carries { ⌜ Carries (now p) (now d) ⌝ }
     requires there { ⌜ i < length (formulas-of (now p)) ⌝ }
     requires small { ⌜ i < 64 ⌝ }
     requires clock { ⌜ c < length (conditions-of (now p)) ⌝ }
     requires few { ⌜ (length (conditions-of (now p)) ≤ 64) × (length (sequences-of (now p)) ≤ 64) ⌝ }
-    requires ready { ⌜ For-parts (Formula-placed (now p) (now d) (now formulas)) (Sequence-placed (now p) (now d) (now sequences)) (getD (formulas-of (now p)) i (Strong 0)) c ⌝ }
+    requires ready { ⌜ For-parts (Formula-placed (now p) (now d) (now fs)) (Sequence-placed (now p) (now d) (now rs)) (getD (formulas-of (now p)) i (Strong 0)) c ⌝ }
     requires room { ⌜ Room (now d) (formula-adds-conditions (getD (formulas-of (now p)) i (Strong 0))) (formula-adds-formulas (getD (formulas-of (now p)) i (Strong 0))) ⌝ }
     ensures { λ r. ⌜ Wrote-formula (now (p .entry)) i c (now (d .entry)) (now (d .exit)) r ⌝ }
 {
     match formula_at(p, i) {
         Formula::Strong(b) => add_strong(d, c as u16, b),
         Formula::Weak(b) => add_weak(d, c as u16, b),
-        Formula::StrongSequence(r) => add_formula(
-            d,
-            Formula::StrongSequence(place(sequences, r, c)),
-        ),
-        Formula::WeakSequence(r) => add_formula(d, Formula::WeakSequence(place(sequences, r, c))),
-        Formula::Not(f) => add_formula(d, Formula::Not(place(formulas, f, c))),
-        Formula::And(f, g) => add_formula(
-            d,
-            Formula::And(place(formulas, f, c), place(formulas, g, c)),
-        ),
-        Formula::Next(f) => add_next(d, c as u16, place(formulas, f, c)),
-        Formula::Until(f, g) => add_until(
-            d,
-            c as u16,
-            place(formulas, f, c),
-            place(formulas, g, c),
-        ),
-        Formula::Abort(f, b) => add_formula(d, Formula::Abort(place(formulas, f, c), b)),
+        Formula::StrongSequence(r) => add_formula(d, Formula::StrongSequence(place(rs, r, c))),
+        Formula::WeakSequence(r) => add_formula(d, Formula::WeakSequence(place(rs, r, c))),
+        Formula::Not(f) => add_formula(d, Formula::Not(place(fs, f, c))),
+        Formula::And(f, g) => add_formula(d, Formula::And(place(fs, f, c), place(fs, g, c))),
+        Formula::Next(f) => add_next(d, c as u16, place(fs, f, c)),
+        Formula::Until(f, g) => add_until(d, c as u16, place(fs, f, c), place(fs, g, c)),
+        Formula::Abort(f, b) => add_formula(d, Formula::Abort(place(fs, f, c), b)),
         Formula::Implies(r, g) => add_formula(
             d,
-            Formula::Implies(place(sequences, r, c), place(formulas, g, c)),
+            Formula::Implies(place(rs, r, c), place(fs, g, c)),
         ),
-        Formula::At(f, e) => place(formulas, f, e as usize),
+        Formula::At(f, e) => place(fs, f, e as usize),
     }
 }
 

@@ -1,5 +1,5 @@
 -- What a record means, and what its calls do to that.
-use mathlib.Core.Bool.{Bool}
+use mathlib.Core.Bool.{Bool, cond}
 use mathlib.Core.List.{List, [], _∷_, _++_}
 use mathlib.Core.Path.{_≡_}
 use Prim.Native.Nat.{ℕ}
@@ -23,6 +23,10 @@ pub record Recorded (X : Type 0) : Type 0 where
 -- one letter more, under the same rule
 abbrev pub with-letter : {X : Type 0} → Recorded X → X → Recorded X
 with-letter r x = record { letters = r .letters ++ (x ∷ []); fits = r .fits }
+
+-- one letter more if it fits, else the record as it was
+abbrev pub with-if-fits : {X : Type 0} → Recorded X → X → Recorded X
+with-if-fits r x = cond (r .fits (r .letters) x) (with-letter r x) r
 
 -- Reading a place: is it below the count? Then the answer is the letter there.
 abbrev pub Reads : {L : Type 0} → ℕ → Recorded (Full L) → Result (Tagged L) Refusal → Recorded (Full L) → Type 0

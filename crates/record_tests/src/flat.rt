@@ -82,10 +82,7 @@ fn twice() -> Result<(), Fail> {
         letter: Wire::empty(),
     }; 3];
     let mut flat = Flat::new(&mut rows);
-    check_eq(
-        add_twice(&mut flat, Tag::Bottom, Wire::empty()).ok(),
-        Some(2),
-    )?;
-    check_eq(add_twice(&mut flat, Tag::Bottom, Wire::empty()).ok(), None)?;
-    check_eq(flat.count(), 3)
+    check_eq(add_twice(&mut flat, Tag::Bottom, Wire::empty()), 2)?;
+    check_eq(add_twice(&mut flat, Tag::Bottom, Wire::empty()), 3)?;
+    check_eq(add_twice(&mut flat, Tag::Bottom, Wire::empty()), 3)
 }

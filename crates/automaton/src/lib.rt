@@ -1,4 +1,6 @@
 // Sequences followed over truth tables by their automata, for all starts at once.
+#![tactic(auto)]
+
 mod advance;
 pub mod automata;
 pub mod clock;

@@ -1,6 +1,6 @@
 -- The bits of a number, of a power of two, of the lowest bits, and of what is made bit by bit.
 use Rattle.std.proofs.Common.{◌≡◌, ℕ, zero, suc, ◌+◌, ◌-◌, ◌*◌, ◌/◌, ◌%◌, ◌^◌, ◌<◌, ◌≤◌, Bool, true, false, not, ◌&&◌, ◌||◌, eqb, ltb, ◌⊎◌, sym, refl, ap, ◌∙◌, inl, inr, zero-mul, arith}
-use mathlib.Core.Bool.{and_true}
+use mathlib.Core.Bool.{and-true}
 use native.Mathlib.Nat.{div-eq_of_lt, zero-div, zero-mod, pow-le-pow_right}
 use mir.Val.{bool_byte}
 use lib.Pow.{ones_split}
@@ -97,5 +97,5 @@ pub bit_mark : (flag : Bool) (b m w : ℕ) → b ≡ bool_byte flag → m < w �
 bit_mark flag b m w is h n = ap (λ (z : ℕ). bit (z * 2 ^ m % 2 ^ w) n) is ∙ go flag
   where
     go : (flag : Bool) → bit (bool_byte flag * 2 ^ m % 2 ^ w) n ≡ (eqb n m && flag)
-    go true = ap (λ (z : ℕ). bit z n) (one_shl m w h) ∙ bit_pow m n ∙ sym (and_true (eqb n m))
+    go true = ap (λ (z : ℕ). bit z n) (one_shl m w h) ∙ bit_pow m n ∙ sym (and-true (eqb n m))
     go false = ap (λ (z : ℕ). bit (z % 2 ^ w) n) (zero-mul (2 ^ m)) ∙ ap (λ (z : ℕ). bit z n) (zero-mod (2 ^ w)) ∙ bit_zero n ∙ sym (and_right (eqb n m) false refl)

@@ -1,4 +1,6 @@
 // Property files: the questions put to them, their refusals, and the tables that an accepted one spells.
+#![tactic(auto)]
+
 mod entry;
 mod fill;
 mod layout;

@@ -1,4 +1,6 @@
 // Clock-free forms: the rewritten tables of a property, and the place that keeps them.
+#![tactic(auto)]
+
 mod build;
 mod count;
 mod draft;

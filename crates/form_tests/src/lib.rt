@@ -1,4 +1,6 @@
 // Properties as tables, each with what comes of removing its clocks.
+#![tactic(auto)]
+
 #[cfg(test)]
 mod counts;
 #[cfg(test)]

@@ -1,4 +1,6 @@
 // Letters: the interface of letter kinds, wire letters, simulator letters, and full letters over any kind.
+#![tactic(auto)]
+
 mod bits;
 pub mod full;
 pub mod kind;

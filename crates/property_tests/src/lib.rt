@@ -1,4 +1,6 @@
 // Property files as tables, each with what comes of reading it.
+#![tactic(auto)]
+
 #[cfg(test)]
 mod entries;
 #[cfg(test)]

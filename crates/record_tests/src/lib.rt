@@ -1,4 +1,6 @@
 // Tests of letters and records, as tables: no code of their own.
+#![tactic(auto)]
+
 #[cfg(test)]
 mod flat;
 #[cfg(test)]

@@ -1,4 +1,6 @@
 // watch: tells what the property file in the working folder holds, or why it is refused.
+#![tactic(auto)]
+
 mod lines;
 
 use lines::file_line;

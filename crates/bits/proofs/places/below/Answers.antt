@@ -8,7 +8,7 @@ pub loop-i-preserved : goal.loop-i-preserved
 loop-i-preserved c = (
   length-set _ _ _ ∙ c.loop-i.invariant.0,
   written_more (λ q. 2 ^ min (c.args.n - 64 * q) 64 - 1) c.loop-i.words c.loop-i.i _ (omega arith)
-      (c.lowest.ensures.value ∙ ap (λ (z : ℕ). 2 ^ min z 64 - 1) c.saturating-sub.ensures)
+      (c.lowest.ensures.value ∙ ap (λ (z : ℕ). 2 ^ min z 64 - 1) c.saturating_sub.ensures)
       c.loop-i.invariant.1,
 )
 

@@ -1,6 +1,6 @@
 -- The first no of questions that are asked in parts.
-use Rattle.std.proofs.Common.{◌≡◌, Bool, true, false, List, [], ◌∷◌, ◌++◌, refl}
-use mathlib.Core.Option.{Option, none, some}
+use Rattle.std.proofs.Common.{◌≡◌, true, false, List, [], ◌∷◌, ◌++◌, refl}
+use mathlib.Core.Option.{none, some}
 use Rattle.answer.specs.Questions.{Question, ◌otherwise◌, first_no}
 
 -- after questions that are all answered yes, the later ones decide

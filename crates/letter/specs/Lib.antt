@@ -4,3 +4,6 @@ pub mod Values
 pub mod Full
 pub mod Told
 pub mod ValuesLemmas
+pub mod Paths
+pub mod SimulatedLaws
+pub mod WireLaws

@@ -1,10 +1,7 @@
 // Simulator letters: each of 32 wires is 0, 1, x or y.
 ghost use Rattle.std.specs.Prelude.{◌≡◌, ℕ, ◌^◌, ◌<◌, Bool, ◌&&◌, ◌==◌};
-ghost use Rattle.std.proofs.Common.{◌∙◌, rules, arith};
 ghost use Rattle.letter.specs.Bit.{put_in, bit};
 ghost use Rattle.letter.specs.Values.{satisfied, swapped, value_at};
-ghost use Rattle.letter.specs.Told.{high};
-ghost use Rattle.letter.specs.ValuesLemmas.{own_told};
 
 use crate::bits;
 use crate::kind::Kind;
@@ -45,6 +42,8 @@ impl Simulated {
 }
 
 impl Kind for Simulated {
+    ghost use Rattle.letter.specs.SimulatedLaws.{simulated_few, simulated_beyond, simulated_twice, simulated_told, simulated_decided};
+
     const ATOMS: u8 = 32;
 
     ghost number = { 32 };
@@ -55,11 +54,15 @@ impl Kind for Simulated {
 
     ghost equals = { λ x y. (x.own == y.own) && x.other == y.other };
 
-    ghost few = { first_of (Prim.search rules, Prim.grind (arith, Self.row.coded.inj)) };
+    ghost few = { simulated_few };
 
-    ghost beyond = { λ x n le. own_told (bit x.own n) (bit x.other n) ∙ high x.own 32 n x.short.0 le };
+    ghost beyond = { simulated_beyond };
 
-    ghost twice = { first_of (Prim.search rules, Prim.grind (arith, Self.row.coded.inj)) };
+    ghost twice = { simulated_twice };
+
+    ghost told = { simulated_told };
+
+    ghost decided = { simulated_decided };
 
     fn number_of_atoms() -> u8 {
         Self::ATOMS

@@ -1,8 +1,6 @@
 // Wire letters: sets of satisfied atoms.
-ghost use Rattle.std.specs.Prelude.{◌≡◌, ℕ, ◌^◌, ◌<◌, Bool, true, false, ◌==◌};
+ghost use Rattle.std.specs.Prelude.{◌≡◌, ℕ, ◌^◌, ◌<◌, true, false, ◌==◌};
 ghost use Rattle.letter.specs.Bit.{bit, put_in};
-ghost use Rattle.letter.specs.Told.{high};
-ghost use Rattle.std.proofs.Common.{rules, arith};
 
 use crate::bits;
 use crate::kind::Kind;
@@ -40,6 +38,8 @@ impl Wire {
 }
 
 impl Kind for Wire {
+    ghost use Rattle.letter.specs.WireLaws.{wire_few, wire_beyond, wire_twice, wire_told, wire_decided};
+
     const ATOMS: u8 = 32;
 
     ghost number = { 32 };
@@ -50,11 +50,15 @@ impl Kind for Wire {
 
     ghost equals = { λ x y. (x.bits == y.bits) };
 
-    ghost few = { first_of (Prim.search rules, Prim.grind (arith, Self.row.coded.inj)) };
+    ghost few = { wire_few };
 
-    ghost beyond = { λ x n le. high x.bits 32 n x.short le };
+    ghost beyond = { wire_beyond };
 
-    ghost twice = { first_of (Prim.search rules, Prim.grind (arith, Self.row.coded.inj)) };
+    ghost twice = { wire_twice };
+
+    ghost told = { wire_told };
+
+    ghost decided = { wire_decided };
 
     fn number_of_atoms() -> u8 {
         Self::ATOMS

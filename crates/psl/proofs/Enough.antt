@@ -2,7 +2,6 @@
 use Rattle.std.proofs.Common.{◌≡◌, ℕ, zero, suc, pred, ◌<◌, ◌≤◌, Bool, true, false, not, ◌&&◌, ◌||◌, T, ◌⊎◌, List, [], ◌∷◌, ◌++◌, refl, inl, inr, mul-one, arith}
 use Rattle.psl.specs.Syntax.{Sequence}
 use Rattle.psl.specs.Letter.{Letter, top}
-use Rattle.psl.specs.Clocked.{more}
 use Rattle.psl.specs.Automaton.{states, State, final, step, any, run_of_tops}
 use Rattle.psl.specs.OptionalClock.{Clock, MatchesUnder}
 use Rattle.psl.proofs.Accept.{Rest, final_right, init_right, step_right, any_in, any_out, after_right}

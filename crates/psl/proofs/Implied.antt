@@ -2,7 +2,7 @@
 use Rattle.std.proofs.Common.{◌≡◌, ℕ, suc, ◌+◌, ◌*◌, ◌<◌, ◌≤◌, T, ◌↔◌, List, ◌++◌, refl, ap₂, mul-le-mul, arith}
 use Rattle.psl.specs.Syntax.{Condition, Sequence, condition, concat, fusion, either, both, empty, star, sequence_at, Formula, strong_sequence}
 use Rattle.psl.specs.Syntax.{weak_sequence, abort}
-use Rattle.psl.specs.Letter.{Letter, satisfies}
+use Rattle.psl.specs.Letter.{Letter}
 use Rattle.psl.specs.Word.{end, tops, bottoms, Word, with_tail, with_tops, seen, Holds, front}
 use Rattle.psl.specs.Clocked.{Matches, Satisfies}
 use Rattle.psl.specs.Unclocked.{UnclockedMatches, UnclockedSatisfies}

@@ -1,5 +1,5 @@
 -- Stretches of a word and ticks in them: the shapes front and Tick against the literal wording.
-use Rattle.std.proofs.Common.{◌≡◌, ℕ, zero, suc, ◌+◌, ◌-◌, ◌<◌, ◌≤◌, T, ◌↔◌, List, [], ◌∷◌, ◌++◌, length, get_or, sym, refl, ap, ◌∙◌, subst, le_of_suc-le-suc, not-suc-le-zero, arith}
+use Rattle.std.proofs.Common.{◌≡◌, ℕ, zero, suc, ◌-◌, ◌<◌, ◌≤◌, T, ◌↔◌, List, [], ◌∷◌, ◌++◌, length, get_or, sym, refl, ap, ◌∙◌, subst, le_of_suc-le-suc, not-suc-le-zero, arith}
 use mathlib.Core.Option.{Option, none, some}
 use Rattle.psl.specs.Syntax.{Condition, negation}
 use Rattle.psl.specs.Letter.{Letter, bottom, satisfies}

@@ -5,8 +5,8 @@ use Rattle.automaton.specs.Views.{Fits, place, row as row_of}
 use Rattle.automaton.proofs.Views.{fits_row, few_places}
 use Rattle.automaton.proofs.advance.row.Goals as goal
 
-pub overflow-mul-q : goal.overflow-mul-q
-overflow-mul-q c =
+pub overflow_mul-q : goal.overflow_mul-q
+overflow_mul-q c =
     let few = few_places c.args.view (c.args.n * c.args.m) c.requires.fits in
     let below = pair_below c.args.n c.args.m c.args.q 0 c.requires.below c.requires.some in
     omega arith

@@ -7,30 +7,30 @@ use Rattle.file.specs.File.{refusal, file_end}
 use Rattle.file.proofs.FirstSection.{at_second, at_third, at_end, first_section_no, second_section_no, third_section_no, bytes_left_over, layout_whole}
 use Rattle.file.proofs.layout.layout.Goals as goal
 
-pub returns-in-err-conditions : goal.returns-in-err-conditions
-returns-in-err-conditions c =
-    let p = err_from_is_err_and c.from-residual.result c.from-residual.ensures.1 in
-    rw (p.1, p.2) (first_section_no _ _ c.in-err-conditions.ensures)
+pub returns-in_err-conditions : goal.returns-in_err-conditions
+returns-in_err-conditions c =
+    let p = err_from_is_err_and c.from_residual.result c.from_residual.ensures.1 in
+    rw (p.1, p.2) (first_section_no _ _ c.in_err-conditions.ensures)
 
-pub returns-in-err-sequences : goal.returns-in-err-sequences
-returns-in-err-sequences c =
-    let p = err_from_is_err_and c.from-residual-in-err-sequences.result c.from-residual-in-err-sequences.ensures.1 in
-    let one = c.in-ok-conditions.ensures in
-    rw (p.1, p.2) (second_section_no _ one.no_no _ (at_second _ _ one (Err _) c.in-err-sequences.ensures))
+pub returns-in_err-sequences : goal.returns-in_err-sequences
+returns-in_err-sequences c =
+    let p = err_from_is_err_and c.from_residual-in_err-sequences.result c.from_residual-in_err-sequences.ensures.1 in
+    let one = c.in_ok-conditions.ensures in
+    rw (p.1, p.2) (second_section_no _ one.no_no _ (at_second _ _ one (Err _) c.in_err-sequences.ensures))
 
-pub returns-in-err-formulas : goal.returns-in-err-formulas
-returns-in-err-formulas c =
-    let p = err_from_is_err_and c.from-residual-in-err-formulas.result c.from-residual-in-err-formulas.ensures.1 in
-    let one = c.in-ok-conditions.ensures in
-    let two = at_second _ _ one (Ok _) c.in-ok-sequences.ensures in
-    rw (p.1, p.2) (third_section_no _ one.no_no two.no_no _ (at_third _ _ one _ two (Err _) c.in-err-formulas.ensures))
+pub returns-in_err-formulas : goal.returns-in_err-formulas
+returns-in_err-formulas c =
+    let p = err_from_is_err_and c.from_residual-in_err-formulas.result c.from_residual-in_err-formulas.ensures.1 in
+    let one = c.in_ok-conditions.ensures in
+    let two = at_second _ _ one (Ok _) c.in_ok-sequences.ensures in
+    rw (p.1, p.2) (third_section_no _ one.no_no two.no_no _ (at_third _ _ one _ two (Err _) c.in_err-formulas.ensures))
 
 pub returns-then-bytes-end : goal.returns-then-bytes-end
 returns-then-bytes-end c =
     let bytes = c.args.bytes.now in
-    let one = c.in-ok-conditions.ensures in
-    let two = at_second _ _ one (Ok _) c.in-ok-sequences.ensures in
-    let three = at_third _ _ one _ two (Ok _) c.in-ok-formulas.ensures in
+    let one = c.in_ok-conditions.ensures in
+    let two = at_second _ _ one (Ok _) c.in_ok-sequences.ensures in
+    let three = at_third _ _ one _ two (Ok _) c.in_ok-formulas.ensures in
     let end_is = at_end _ _ one _ _ two three in
     bytes_left_over bytes one.no_no two.no_no three.no_no (subst (λ o. o < length bytes) end_is c.if-bytes-end.true)
     ∙ ap (λ o. some (refusal Formulas o BytesLeftOver)) (sym end_is)
@@ -38,9 +38,9 @@ returns-then-bytes-end c =
 pub returns : goal.returns
 returns c =
     let bytes = c.args.bytes.now in
-    let one = c.in-ok-conditions.ensures in
-    let two = at_second _ _ one (Ok _) c.in-ok-sequences.ensures in
-    let three = at_third _ _ one _ two (Ok _) c.in-ok-formulas.ensures in
+    let one = c.in_ok-conditions.ensures in
+    let two = at_second _ _ one (Ok _) c.in_ok-sequences.ensures in
+    let three = at_third _ _ one _ two (Ok _) c.in_ok-formulas.ensures in
     let few : length bytes ≤ file_end bytes = subst (λ o. length bytes ≤ o) (at_end _ _ one _ _ two three) c.if-bytes-end.false in
     record {
       conditions = one.value;

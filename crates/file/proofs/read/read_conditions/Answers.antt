@@ -3,13 +3,13 @@ use Rattle.std.proofs.lemmas.Result.{err_from_is_err_and}
 use Rattle.file.proofs.WholeFile.{of_conditions, section_read}
 use Rattle.file.proofs.read.read_conditions.Goals as goal
 
-pub returns-in-err-fill : goal.returns-in-err-fill
-returns-in-err-fill c =
-    let p = err_from_is_err_and c.from-residual.result c.from-residual.ensures.1 in
-    rw (p.1, p.2) ((of_conditions _ _ c.requires _ c.part-rows.ensures.items).0 ∙ c.in-err-fill.ensures)
+pub returns-in_err-fill : goal.returns-in_err-fill
+returns-in_err-fill c =
+    let p = err_from_is_err_and c.from_residual.result c.from_residual.ensures.1 in
+    rw (p.1, p.2) ((of_conditions _ _ c.requires _ c.part-rows.ensures.items).0 ∙ c.in_err-fill.ensures)
 
 pub returns : goal.returns
 returns c =
     let t = c.fill.new.table in
     let here = of_conditions _ c.args.counts c.requires _ c.part-rows.ensures.items in
-    section_read _ _ _ _ _ _ _ _ t.entries t.count t.few t.long c.part-rows.ensures.len here c.in-ok-fill.ensures
+    section_read _ _ _ _ _ _ _ _ t.entries t.count t.few t.long c.part-rows.ensures.len here c.in_ok-fill.ensures

@@ -8,12 +8,12 @@ use Rattle.form.proofs.build.add_next.Goals as goal
 pub returns : goal.returns
 returns c =
     let d = c.args.d.now in
-    let i1 = c.add-condition-idle.ensures in
-    let i2 = c.add-formula-wait.ensures in
-    let i3 = c.add-formula-tick.ensures in
-    let i4 = c.on-tick-inner.ensures in
-    let i5 = c.add-formula-step.ensures in
-    let i6 = c.on-tick.ensures in
+    let i1 = c.add_condition-idle.ensures in
+    let i2 = c.add_formula-wait.ensures in
+    let i3 = c.add_formula-tick.ensures in
+    let i4 = c.on_tick-inner.ensures in
+    let i5 = c.add_formula-step.ensures in
+    let i6 = c.on_tick.ensures in
     let clock : ConditionIs d c.args.c (condition_in d c.args.c) = record { there = c.requires.clock; is = refl } in
     let under : FormulaIs d c.args.g (formula_in d c.args.g) = record { there = c.requires.under; is = refl } in
     let g12 = grows_twice i1.grows i2.grows in

@@ -7,11 +7,11 @@ use Rattle.form.proofs.build.add_strong.Goals as goal
 pub returns : goal.returns
 returns c =
     let d = c.args.d.now in
-    let i1 = c.add-condition-idle.ensures in
-    let i2 = c.add-condition-hit.ensures in
-    let i3 = c.add-formula-wait.ensures in
-    let i4 = c.add-formula-last.ensures in
-    let i5 = c.add-formula.ensures in
+    let i1 = c.add_condition-idle.ensures in
+    let i2 = c.add_condition-hit.ensures in
+    let i3 = c.add_formula-wait.ensures in
+    let i4 = c.add_formula-last.ensures in
+    let i5 = c.add_formula.ensures in
     let clock : ConditionIs d c.args.c (condition_in d c.args.c) = record { there = c.requires.clock; is = refl } in
     let under : ConditionIs d c.args.b (condition_in d c.args.b) = record { there = c.requires.under; is = refl } in
     let hit = condition_as (ap₂ conjunction (keep_condition i1.grows clock).is (keep_condition i1.grows under).is) i2.is in

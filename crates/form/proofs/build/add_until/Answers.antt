@@ -7,12 +7,12 @@ use Rattle.form.proofs.build.add_until.Goals as goal
 pub returns : goal.returns
 returns c =
     let d = c.args.d.now in
-    let i1 = c.add-formula-tick.ensures in
-    let i2 = c.add-formula-fails.ensures in
-    let i3 = c.add-formula-bad.ensures in
-    let i4 = c.add-formula-fine.ensures in
-    let i5 = c.add-formula-last.ensures in
-    let i6 = c.add-formula.ensures in
+    let i1 = c.add_formula-tick.ensures in
+    let i2 = c.add_formula-fails.ensures in
+    let i3 = c.add_formula-bad.ensures in
+    let i4 = c.add_formula-fine.ensures in
+    let i5 = c.add_formula-last.ensures in
+    let i6 = c.add_formula.ensures in
     let left : FormulaIs d c.args.f (formula_in d c.args.f) = record { there = c.requires.left; is = refl } in
     let right : FormulaIs d c.args.g (formula_in d c.args.g) = record { there = c.requires.right; is = refl } in
     let fails = formula_as (ap negated (keep_formula c.requires.sound i1.grows left).is) i2.is in

@@ -8,9 +8,9 @@ use Rattle.form.proofs.build.add_weak.Goals as goal
 pub returns : goal.returns
 returns c =
     let d = c.args.d.now in
-    let i1 = c.add-condition-other.ensures in
-    let i2 = c.add-strong-found.ensures in
-    let i3 = c.add-formula.ensures in
+    let i1 = c.add_condition-other.ensures in
+    let i2 = c.add_strong-found.ensures in
+    let i3 = c.add_formula.ensures in
     let clock : ConditionIs d c.args.c (condition_in d c.args.c) = record { there = c.requires.clock; is = refl } in
     let found = formula_as (ap₂ (λ t u. unclock t (strong u)) (keep_condition i1.grows clock).is i1.is.is) i2.is in
     record {

@@ -7,8 +7,8 @@ use Rattle.form.proofs.build.on_tick.Goals as goal
 pub returns : goal.returns
 returns c =
     let d = c.args.d.now in
-    let i1 = c.add-formula-both.ensures in
-    let i2 = c.add-formula.ensures in
+    let i1 = c.add_formula-both.ensures in
+    let i2 = c.add_formula.ensures in
     let wait : FormulaIs d c.args.wait (formula_in d c.args.wait) = record { there = c.requires.first; is = refl } in
     record {
       sound = i2.sound;

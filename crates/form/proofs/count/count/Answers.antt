@@ -14,12 +14,12 @@ returns c =
     let m = 64 * length (formulas_of p) in
     let is_f = ap (λ m. m.formulas) c.requires.met in
     let is_s = ap (λ m. m.sequences) c.requires.met in
-    let first = c.count-sequences-of-sequences.ensures in
-    let second = c.count-formulas-of-formulas.ensures in
+    let first = c.count_sequences-of_sequences.ensures in
+    let second = c.count_formulas-of_formulas.ensures in
     record {
       conditions = omega (
         arith,
-        c.condition-count.ensures.value,
+        c.condition_count.ensures.value,
         first.conditions,
         second.conditions,
         ap (λ x. total (s.Condition 0) sequence_adds_conditions (sequences_of p) x n) is_s,

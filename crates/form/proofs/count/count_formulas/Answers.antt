@@ -15,11 +15,11 @@ loop-k-preserved c =
     elim c.if-met-k.branch [
       | then-met-k w ↦
           let told = w.formula_at.ensures.is in
-          let more = w.formula-adds-more.ensures in (
+          let more = w.formula_adds-more.ensures in (
             omega (arith, w.conditions-is, total_yes (first 0) formula_adds_conditions es met k w.if-met-k.true, more.conditions, ap formula_adds_conditions told, inv.0),
             omega (arith, w.formulas-is, total_yes (first 0) formula_adds_formulas es met k w.if-met-k.true, more.formulas, ap formula_adds_formulas told, inv.1),
-            omega (arith, w.conditions-is, more.high-bound.0, inv.2),
-            omega (arith, w.formulas-is, more.high-bound.1, inv.3),
+            omega (arith, w.conditions-is, more.high_bound.0, inv.2),
+            omega (arith, w.formulas-is, more.high_bound.1, inv.3),
           )
       | else-met-k w ↦ (
         omega (arith, w.conditions-is, total_no (first 0) formula_adds_conditions es met k w.if-met-k.false, inv.0),

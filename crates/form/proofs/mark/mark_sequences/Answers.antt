@@ -9,7 +9,7 @@ loop-k-preserved-then-met-k c =
     let rs = sequences_of c.args.p.now in
     let k = c.loop-k.k - 1 in
     let up : c.loop-k.k ≡ k + 1 = omega (arith, c.loop-k-test.true) in (
-      ap (meet_sequences rs k) c.mark-sequence.ensures ∙ sym (meet_yes rs k c.loop-k.met c.if-met-k.true) ∙ ap (λ j. meet_sequences rs j c.loop-k.met) (sym up) ∙ c.loop-k.invariant.0,
+      ap (meet_sequences rs k) c.mark_sequence.ensures ∙ sym (meet_yes rs k c.loop-k.met c.if-met-k.true) ∙ ap (λ j. meet_sequences rs j c.loop-k.met) (sym up) ∙ c.loop-k.invariant.0,
       omega (arith, c.loop-k.invariant.1),
     )
 

@@ -10,7 +10,7 @@ loop-k-preserved-then-fm-k c =
     let m = marks c.loop-k.fm c.loop-k.sm in
     let k = c.loop-k.k - 1 in
     let up : c.loop-k.k ≡ k + 1 = omega (arith, c.loop-k-test.true) in (
-      ap₂ (λ x y. meet_formulas fs k (marks x y)) c.mark-formula.ensures.formulas c.mark-formula.ensures.sequences ∙ sym (meet_yes fs k m c.if-fm-k.true)
+      ap₂ (λ x y. meet_formulas fs k (marks x y)) c.mark_formula.ensures.formulas c.mark_formula.ensures.sequences ∙ sym (meet_yes fs k m c.if-fm-k.true)
           ∙ ap (λ j. meet_formulas fs j m) (sym up) ∙ c.loop-k.invariant.0,
       omega (arith, c.loop-k.invariant.1),
     )

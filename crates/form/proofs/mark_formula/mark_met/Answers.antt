@@ -8,10 +8,10 @@ unfolding met formulas_met
 returns c =
     let p = c.args.p.now in
     let start : marks c.put.new.met c.args.sm.now ≡ root_marked p =
-    ap₂ marks (c.put.ensures ∙ ap₂ (λ xs j. set xs j true) c.requires.blank-formulas (omega (arith, c.formula-count.ensures.value, c.formula-count.ensures.low-bound, c.formula-count.ensures.high-bound))) c.requires.blank-sequences
+    ap₂ marks (c.put.ensures ∙ ap₂ (λ xs j. set xs j true) c.requires.blank_formulas (omega (arith, c.formula_count.ensures.value, c.formula_count.ensures.low_bound, c.formula_count.ensures.high_bound))) c.requires.blank_sequences
     in
-    let made : marks c.mark-formulas.new.fm c.mark-formulas.new.sm ≡ formulas_met p =
-    c.mark-formulas.ensures ∙ ap (meet_formulas (formulas_of p) (64 * length (formulas_of p))) start
+    let made : marks c.mark_formulas.new.fm c.mark_formulas.new.sm ≡ formulas_met p =
+    c.mark_formulas.ensures ∙ ap (meet_formulas (formulas_of p) (64 * length (formulas_of p))) start
     in
     ap₂ marks (ap (λ m. m.formulas) made)
-    (c.mark-sequences.ensures ∙ ap (λ m. meet_sequences (sequences_of p) (64 * length (sequences_of p)) m.sequences) made)
+    (c.mark_sequences.ensures ∙ ap (λ m. meet_sequences (sequences_of p) (64 * length (sequences_of p)) m.sequences) made)

@@ -8,12 +8,12 @@ use Rattle.form.proofs.push.tick.Goals as goal
 pub returns : goal.returns
 returns c =
     let d = c.args.d.now in
-    let i1 = c.add-condition-idle.ensures in
-    let i2 = c.add-condition-hit.ensures in
-    let i3 = c.add-sequence-wait.ensures in
-    let i4 = c.add-sequence-waits.ensures in
-    let i5 = c.add-sequence-last.ensures in
-    let i6 = c.add-sequence.ensures in
+    let i1 = c.add_condition-idle.ensures in
+    let i2 = c.add_condition-hit.ensures in
+    let i3 = c.add_sequence-wait.ensures in
+    let i4 = c.add_sequence-waits.ensures in
+    let i5 = c.add_sequence-last.ensures in
+    let i6 = c.add_sequence.ensures in
     let clock : ConditionIs d c.args.c (get_or (conditions (conditions_in d)) c.args.c falsity) = record { there = c.requires.clock; is = refl } in
     let under : ConditionIs d c.args.b (get_or (conditions (conditions_in d)) c.args.b falsity) = record { there = c.requires.under; is = refl } in
     let g4 = grows_twice i3.grows i4.grows in

@@ -11,7 +11,7 @@ rewrite-requires c =
     let counts = c.count.ensures in
     let none_no : first_no (questions p) ≡ none = sym (limits_same counts.conditions counts.sequences counts.formulas) ∙ c.in-Ok.ensures in
     let fit = fits (conditions_needed p) (sequences_needed p) (formulas_needed p) none_no in
-    record { long = search rules; met = c.mark-met.ensures; room = record { conditions = fit.0; sequences = fit.1; formulas = fit.2 } }
+    record { long = search rules; met = c.mark_met.ensures; room = record { conditions = fit.0; sequences = fit.1; formulas = fit.2 } }
 
 pub returns-in-Ok : goal.returns-in-Ok
 returns-in-Ok c =

@@ -11,6 +11,6 @@ pub returns : goal.returns
 returns c =
     let p = c.args.p.now in
     let given = c.conditions-given.ensures.value in
-    let count = c.condition-count-d.ensures.value in
+    let count = c.condition_count-d.ensures.value in
     fresh_is p _ (ap (λ n. take n c.copy.new.table) (count ∙ ap length (sym given)) ∙ c.copy.ensures ∙ given) count
     (search rules) (search rules) (search rules) (search rules) (search rules)

@@ -11,9 +11,9 @@ use Rattle.form.specs.Limits.{conditions_needed, sequences_needed, formulas_need
 use Rattle.form.proofs.MetPairs.{met_least, some_formulas, few_formulas}
 use Rattle.form.proofs.rewrite.rewrite.Goals as goal
 
-pub write-sequences-requires : goal.write-sequences-requires
+pub write_sequences-requires : goal.write_sequences-requires
 unfolding conditions_needed sequences_needed
-write-sequences-requires c =
+write_sequences-requires c =
     let p = c.args.p.now in
     let n = 64 * length (sequences_of p) in
     let is = ap (λ m. m.sequences) c.requires.met in
@@ -29,9 +29,9 @@ write-sequences-requires c =
       room = (omega (arith, begun.count_c, c.requires.room.conditions, more_c), omega (arith, begun.count_s, c.requires.room.sequences, more_s));
     }
 
-pub write-formulas-requires : goal.write-formulas-requires
+pub write_formulas-requires : goal.write_formulas-requires
 unfolding conditions_needed formulas_needed
-write-formulas-requires c =
+write_formulas-requires c =
     let p = c.args.p.now in
     let n = 64 * length (sequences_of p) in
     let m = 64 * length (formulas_of p) in
@@ -41,7 +41,7 @@ write-formulas-requires c =
     let more_c = ap (λ x. total (f.Strong 0) formula_adds_conditions (formulas_of p) x m) is_f in
     let more_f = ap (λ x. total (f.Strong 0) formula_adds_formulas (formulas_of p) x m) is_f in
     let begun = c.fresh-d.ensures in
-    let stand = c.write-sequences.ensures in
+    let stand = c.write_sequences.ensures in
     record {
       long = (c.requires.long.0, c.requires.long.1, stand.6, search rules);
       sound = stand.0;
@@ -64,17 +64,17 @@ returns c =
     let more_c = ap (λ x. total (f.Strong 0) formula_adds_conditions (formulas_of p) x m) is_f in
     let more_f = ap (λ x. total (f.Strong 0) formula_adds_formulas (formulas_of p) x m) is_f in
     let begun = c.fresh-d.ensures in
-    let low = c.write-sequences.ensures in
-    let stand = c.write-formulas.ensures in
+    let low = c.write_sequences.ensures in
+    let stand = c.write_formulas.ensures in
     let root : Marked c.args.fm.now (length (formulas_of p) - 1) 0 = subst (λ x. Marked x (length (formulas_of p) - 1) 0) (sym is_f) (met_least p).closed.root in
     let inside : key (length (formulas_of p) - 1) 0 < m = omega (arith, some_formulas p) in
-    let count = c.formula-count.ensures in
+    let count = c.formula_count.ensures in
     record {
       sound = stand.0;
       count_c = omega (arith, stand.4, low.4, begun.count_c, from_c, more_c);
       count_s = omega (arith, stand.8, low.5, begun.count_s, from_s);
       count_f = omega (arith, stand.5, low.7, begun.count_f, more_f);
-      is = subst (λ r. FormulaIs c.write-formulas.new.d r (formula_image p (length (formulas_of p) - 1) 0))
-          (ap (λ j. get_or c.write-formulas.new.places j 0) (omega (arith, count.value, count.low-bound, count.high-bound)) ∙ sym c.place.ensures)
+      is = subst (λ r. FormulaIs c.write_formulas.new.d r (formula_image p (length (formulas_of p) - 1) 0))
+          (ap (λ j. get_or c.write_formulas.new.places j 0) (omega (arith, count.value, count.low_bound, count.high_bound)) ∙ sym c.place.ensures)
           (stand.3 (length (formulas_of p) - 1) 0 (omega arith) inside root);
     }

@@ -48,7 +48,7 @@ returns-in-Concat c =
     let told = c.in-Concat.ensures in
     let e = s.Concat c.in-Concat.a c.in-Concat.b in
     let ready = ready_at p i k c.requires.there d c.args.places.now e told c.requires.ready in
-    wrote p i k c.requires.there d _ e told _ _ c.add-sequence.ensures
+    wrote p i k c.requires.there d _ e told _ _ c.add_sequence.ensures
     (ap₂ concat (operand p i k c.requires.there d c.args.places.now _ _ _ c.place.ensures ready.0)
     (operand p i k c.requires.there d c.args.places.now _ _ _ c.place-in-Concat.ensures ready.1))
     refl refl
@@ -62,7 +62,7 @@ returns-in-Fusion c =
     let told = c.in-Fusion.ensures in
     let e = s.Fusion c.in-Fusion.a c.in-Fusion.b in
     let ready = ready_at p i k c.requires.there d c.args.places.now e told c.requires.ready in
-    wrote p i k c.requires.there d _ e told _ _ c.add-sequence-in-Fusion.ensures
+    wrote p i k c.requires.there d _ e told _ _ c.add_sequence-in-Fusion.ensures
     (ap₂ fusion (operand p i k c.requires.there d c.args.places.now _ _ _ c.place-in-Fusion.ensures ready.0)
     (operand p i k c.requires.there d c.args.places.now _ _ _ c.place-in-Fusion-2.ensures ready.1))
     refl refl
@@ -76,7 +76,7 @@ returns-in-Either c =
     let told = c.in-Either.ensures in
     let e = s.Either c.in-Either.a c.in-Either.b in
     let ready = ready_at p i k c.requires.there d c.args.places.now e told c.requires.ready in
-    wrote p i k c.requires.there d _ e told _ _ c.add-sequence-in-Either.ensures
+    wrote p i k c.requires.there d _ e told _ _ c.add_sequence-in-Either.ensures
     (ap₂ either (operand p i k c.requires.there d c.args.places.now _ _ _ c.place-in-Either.ensures ready.0)
     (operand p i k c.requires.there d c.args.places.now _ _ _ c.place-in-Either-2.ensures ready.1))
     refl refl
@@ -90,14 +90,14 @@ returns-in-Both c =
     let told = c.in-Both.ensures in
     let e = s.Both c.in-Both.a c.in-Both.b in
     let ready = ready_at p i k c.requires.there d c.args.places.now e told c.requires.ready in
-    wrote p i k c.requires.there d _ e told _ _ c.add-sequence-in-Both.ensures
+    wrote p i k c.requires.there d _ e told _ _ c.add_sequence-in-Both.ensures
     (ap₂ both (operand p i k c.requires.there d c.args.places.now _ _ _ c.place-in-Both.ensures ready.0)
     (operand p i k c.requires.there d c.args.places.now _ _ _ c.place-in-Both-2.ensures ready.1))
     refl refl
 
 pub returns-in-Empty : goal.returns-in-Empty
 returns-in-Empty c =
-    wrote c.args.p.now c.args.i c.args.c c.requires.there c.args.d.now _ s.Empty c.in-Empty.ensures _ _ c.add-sequence-in-Empty.ensures refl refl refl
+    wrote c.args.p.now c.args.i c.args.c c.requires.there c.args.d.now _ s.Empty c.in-Empty.ensures _ _ c.add_sequence-in-Empty.ensures refl refl refl
 
 pub returns-in-Star : goal.returns-in-Star
 returns-in-Star c =
@@ -108,7 +108,7 @@ returns-in-Star c =
     let told = c.in-Star.ensures in
     let e = s.Star c.in-Star.a in
     let ready = ready_at p i k c.requires.there d c.args.places.now e told c.requires.ready in
-    wrote p i k c.requires.there d _ e told _ _ c.add-sequence-in-Star.ensures
+    wrote p i k c.requires.there d _ e told _ _ c.add_sequence-in-Star.ensures
     (ap star (operand p i k c.requires.there d c.args.places.now _ _ _ c.place-in-Star.ensures ready)) refl refl
 
 pub returns-in-At : goal.returns-in-At

@@ -16,8 +16,8 @@ until_same : {t u : Condition} {x y v w : Formula} → t ≡ u → x ≡ y → v
     → until (negated (conjoined (strong t) (negated x))) (conjoined (strong t) v) ≡ until (negated (conjoined (strong u) (negated y))) (conjoined (strong u) w)
 until_same {u = u} {x = x} {v = v} e g h = ap (λ t. until (negated (conjoined (strong t) (negated x))) (conjoined (strong t) v)) e ∙ ap₂ (λ x v. until (negated (conjoined (strong u) (negated x))) (conjoined (strong u) v)) g h
 
-pub add-strong-requires : goal.add-strong-requires
-add-strong-requires c =
+pub add_strong-requires : goal.add_strong-requires
+add_strong-requires c =
     let told = c.in-Strong.ensures in
     record {
       sound = c.requires.sound;
@@ -26,8 +26,8 @@ add-strong-requires c =
       room = (omega (arith, c.requires.room.0, ap formula_adds_conditions told.is), omega (arith, c.requires.room.1, ap formula_adds_formulas told.is));
     }
 
-pub add-weak-requires : goal.add-weak-requires
-add-weak-requires c =
+pub add_weak-requires : goal.add_weak-requires
+add_weak-requires c =
     let told = c.in-Weak.ensures in
     record {
       sound = c.requires.sound;
@@ -36,8 +36,8 @@ add-weak-requires c =
       room = (omega (arith, c.requires.room.0, ap formula_adds_conditions told.is), omega (arith, c.requires.room.1, ap formula_adds_formulas told.is));
     }
 
-pub add-formula-requires-in-Abort : goal.add-formula-requires-in-Abort
-add-formula-requires-in-Abort c =
+pub add_formula-requires-in-Abort : goal.add_formula-requires-in-Abort
+add_formula-requires-in-Abort c =
     let told = c.in-Abort.ensures in
     let ready = ready_at c.args.p.now c.args.i c.args.c c.requires.there c.args.d.now c.args.rs.now c.args.fs.now (f.Abort c.in-Abort.f c.in-Abort.b) told c.requires.ready in
     let named = and_parts (ltb c.in-Abort.f c.args.i) _ told.names in
@@ -60,7 +60,7 @@ returns-in-Strong c =
     let e = f.Strong c.in-Strong.b in
     let clock = c.requires.carries k c.requires.clock in
     let under = c.requires.carries c.in-Strong.b (ltb-true _ _ told.names) in
-    built p i k there d _ e told _ _ _ _ c.add-strong.ensures (ap₂ (λ t u. unclock t (strong u)) clock.is under.is) refl refl
+    built p i k there d _ e told _ _ _ _ c.add_strong.ensures (ap₂ (λ t u. unclock t (strong u)) clock.is under.is) refl refl
 
 pub returns-in-Weak : goal.returns-in-Weak
 returns-in-Weak c =
@@ -75,7 +75,7 @@ returns-in-Weak c =
     let e = f.Weak c.in-Weak.b in
     let clock = c.requires.carries k c.requires.clock in
     let under = c.requires.carries c.in-Weak.b (ltb-true _ _ told.names) in
-    built p i k there d _ e told _ _ _ _ c.add-weak.ensures (ap₂ (λ t u. unclock t (weak u)) clock.is under.is) refl refl
+    built p i k there d _ e told _ _ _ _ c.add_weak.ensures (ap₂ (λ t u. unclock t (weak u)) clock.is under.is) refl refl
 
 pub returns-in-StrongSequence : goal.returns-in-StrongSequence
 returns-in-StrongSequence c =
@@ -89,7 +89,7 @@ returns-in-StrongSequence c =
     let told = c.in-StrongSequence.ensures in
     let e = f.StrongSequence c.in-StrongSequence.r in
     let ready = ready_at p i k there d rs fs e told c.requires.ready in
-    wrote p i k there d _ e told _ _ c.add-formula.ensures (ap strong_sequence (operandS p d rs _ _ _ c.place.ensures (ready))) refl refl
+    wrote p i k there d _ e told _ _ c.add_formula.ensures (ap strong_sequence (operandS p d rs _ _ _ c.place.ensures (ready))) refl refl
 
 pub returns-in-WeakSequence : goal.returns-in-WeakSequence
 returns-in-WeakSequence c =
@@ -103,7 +103,7 @@ returns-in-WeakSequence c =
     let told = c.in-WeakSequence.ensures in
     let e = f.WeakSequence c.in-WeakSequence.r in
     let ready = ready_at p i k there d rs fs e told c.requires.ready in
-    wrote p i k there d _ e told _ _ c.add-formula-in-WeakSequence.ensures (ap weak_sequence (operandS p d rs _ _ _ c.place-in-WeakSequence.ensures (ready))) refl refl
+    wrote p i k there d _ e told _ _ c.add_formula-in-WeakSequence.ensures (ap weak_sequence (operandS p d rs _ _ _ c.place-in-WeakSequence.ensures (ready))) refl refl
 
 pub returns-in-Not : goal.returns-in-Not
 returns-in-Not c =
@@ -117,7 +117,7 @@ returns-in-Not c =
     let told = c.in-Not.ensures in
     let e = f.Not c.in-Not.f in
     let ready = ready_at p i k there d rs fs e told c.requires.ready in
-    wrote p i k there d _ e told _ _ c.add-formula-in-Not.ensures (ap negated (part p d fs _ _ _ c.place-in-Not.ensures (ready))) refl refl
+    wrote p i k there d _ e told _ _ c.add_formula-in-Not.ensures (ap negated (part p d fs _ _ _ c.place-in-Not.ensures (ready))) refl refl
 
 pub returns-in-And : goal.returns-in-And
 returns-in-And c =
@@ -131,7 +131,7 @@ returns-in-And c =
     let told = c.in-And.ensures in
     let e = f.And c.in-And.f c.in-And.g in
     let ready = ready_at p i k there d rs fs e told c.requires.ready in
-    wrote p i k there d _ e told _ _ c.add-formula-in-And.ensures (ap₂ conjoined (part p d fs _ _ _ c.place-in-And.ensures ready.0) (part p d fs _ _ _ c.place-in-And-2.ensures ready.1)) refl refl
+    wrote p i k there d _ e told _ _ c.add_formula-in-And.ensures (ap₂ conjoined (part p d fs _ _ _ c.place-in-And.ensures ready.0) (part p d fs _ _ _ c.place-in-And-2.ensures ready.1)) refl refl
 
 pub returns-in-Next : goal.returns-in-Next
 returns-in-Next c =
@@ -146,7 +146,7 @@ returns-in-Next c =
     let e = f.Next c.in-Next.f in
     let ready = ready_at p i k there d rs fs e told c.requires.ready in
     let clock = c.requires.carries k c.requires.clock in
-    built p i k there d _ e told _ _ _ _ c.add-next.ensures (ap₂ (λ t x. on_tick_of t (next (on_tick_of t x))) clock.is (part p d fs _ _ _ c.place-in-Next.ensures (ready))) refl refl
+    built p i k there d _ e told _ _ _ _ c.add_next.ensures (ap₂ (λ t x. on_tick_of t (next (on_tick_of t x))) clock.is (part p d fs _ _ _ c.place-in-Next.ensures (ready))) refl refl
 
 pub returns-in-Until : goal.returns-in-Until
 returns-in-Until c =
@@ -161,7 +161,7 @@ returns-in-Until c =
     let e = f.Until c.in-Until.f c.in-Until.g in
     let ready = ready_at p i k there d rs fs e told c.requires.ready in
     let clock = c.requires.carries k c.requires.clock in
-    built p i k there d _ e told _ _ _ _ c.add-until.ensures
+    built p i k there d _ e told _ _ _ _ c.add_until.ensures
     (until_same clock.is (part p d fs _ _ _ c.place-in-Until.ensures ready.0) (part p d fs _ _ _ c.place-in-Until-2.ensures ready.1)) refl refl
 
 pub returns-in-Abort : goal.returns-in-Abort
@@ -177,7 +177,7 @@ returns-in-Abort c =
     let e = f.Abort c.in-Abort.f c.in-Abort.b in
     let ready = ready_at p i k there d rs fs e told c.requires.ready in
     let under = c.requires.carries c.in-Abort.b (ltb-true _ _ (and_parts (ltb c.in-Abort.f i) _ told.names).1) in
-    wrote p i k there d _ e told _ _ c.add-formula-in-Abort.ensures (ap₂ abort (part p d fs _ _ _ c.place-in-Abort.ensures (ready)) under.is) refl refl
+    wrote p i k there d _ e told _ _ c.add_formula-in-Abort.ensures (ap₂ abort (part p d fs _ _ _ c.place-in-Abort.ensures (ready)) under.is) refl refl
 
 pub returns-in-Implies : goal.returns-in-Implies
 returns-in-Implies c =
@@ -191,7 +191,7 @@ returns-in-Implies c =
     let told = c.in-Implies.ensures in
     let e = f.Implies c.in-Implies.r c.in-Implies.g in
     let ready = ready_at p i k there d rs fs e told c.requires.ready in
-    wrote p i k there d _ e told _ _ c.add-formula-in-Implies.ensures (ap₂ implies (operandS p d rs _ _ _ c.place-in-Implies.ensures ready.0) (part p d fs _ _ _ c.place-in-Implies-2.ensures ready.1)) refl refl
+    wrote p i k there d _ e told _ _ c.add_formula-in-Implies.ensures (ap₂ implies (operandS p d rs _ _ _ c.place-in-Implies.ensures ready.0) (part p d fs _ _ _ c.place-in-Implies-2.ensures ready.1)) refl refl
 
 pub returns-in-At : goal.returns-in-At
 returns-in-At c =

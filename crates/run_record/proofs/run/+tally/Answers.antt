@@ -14,5 +14,5 @@ returns-else-run-sum g t c = record {
   value =
       c.tally.ensures.value
       ∙ tally_step g.K.Kind.equals (held_if c.args.before) c.args.sum c.args.rows.now c.run-item.result
-      (search rules) c.run-item.is (search rules) (sym c.goes-on.ensures.value ∙ c.if-goes-on.false) (omega arith);
+      (search rules) c.run-item.is (search rules) (sym c.goes_on.ensures.value ∙ c.if-goes_on.false) (omega arith);
 }

@@ -9,12 +9,12 @@ returns-in-Some g c =
     let rows = c.args.rows.now in
     let first = c.cut-first.result in
     let is = cut_take rows (min c.args.used 64) first c.cut-first.ensures.value in
-    let told : tally eq None 0 (take first rows) ≡ Some c.in-Some.letters = sym c.tally-among.ensures.value ∙ c.in-Some.is in
+    let told : tally eq None 0 (take first rows) ≡ Some c.in-Some.letters = sym c.tally_among.ensures.value ∙ c.in-Some.is in
     record {
       within = omega (arith, c.cut-first.ensures.value);
       items = sym (ap (λ o. kept o (take first rows)) told) ∙ ap (counted eq) is;
       len = told;
-      same = c.tally-among.ensures.same;
+      same = c.tally_among.ensures.same;
     }
 
 pub returns-in-None : goal.returns-in-None
@@ -23,10 +23,10 @@ returns-in-None g c =
     let rows = c.args.rows.now in
     let first = c.cut-first.result in
     let is = cut_take rows (min c.args.used 64) first c.cut-first.ensures.value in
-    let told : tally eq None 0 (take first rows) ≡ None = sym c.tally-among.ensures.value ∙ c.in-None.is in
+    let told : tally eq None 0 (take first rows) ≡ None = sym c.tally_among.ensures.value ∙ c.in-None.is in
     record {
       within = omega arith;
       items = sym (ap (λ o. kept o (take first rows)) told) ∙ ap (counted eq) is;
       len = refl;
-      same = c.tally-among.ensures.same;
+      same = c.tally_among.ensures.same;
     }

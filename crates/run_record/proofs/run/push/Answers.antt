@@ -6,27 +6,27 @@ use Rattle.run_record.proofs.Tally.{fits_told, same_told}
 use Rattle.run_record.proofs.Pushes.{some_row, last_row_at, length_fits, longer_letters, pushed_letters}
 use Rattle.run_record.proofs.run.push.Goals as goal
 
-pub returns-then-old-ge-MOST-LETTERS : goal.returns-then-old-ge-MOST-LETTERS
-returns-then-old-ge-MOST-LETTERS g c =
+pub returns-then-old-ge-MOST_LETTERS : goal.returns-then-old-ge-MOST_LETTERS
+returns-then-old-ge-MOST_LETTERS g c =
     let eq = g.K.Kind.equals in
     let rows = c.args.rows.now in
     record {
       made = (
-        fits_told eq g.met.K.Kind.decided (take c.args.old.rows rows) c.args.old.letters _ _ c.requires.sound ∙ and_left _ _ (le-ltb _ _ c.if-old-ge-MOST-LETTERS.true),
+        fits_told eq g.met.K.Kind.decided (take c.args.old.rows rows) c.args.old.letters _ _ c.requires.sound ∙ and_left _ _ (le-ltb _ _ c.if-old-ge-MOST_LETTERS.true),
         refl,
       );
     }
 
-pub overflow-add-rows : goal.overflow-add-rows
-overflow-add-rows g c =
+pub overflow_add-rows : goal.overflow_add-rows
+overflow_add-rows g c =
     let eq = g.K.Kind.equals in
     let rows = c.args.rows.now in
     let within : c.args.old.rows ≤ length rows = omega (arith, c.requires.within) in
-    let some = some_row eq rows c.args.old.rows c.args.old.letters within c.requires.sound _ (sym c.if-ends-in.ensures.value) in
+    let some = some_row eq rows c.args.old.rows c.args.old.letters within c.requires.sound _ (sym c.if-ends_in.ensures.value) in
     omega (arith, length_fits eq rows c.args.old.rows c.args.old.letters within c.requires.sound c.index-rows-used.result some c.index-rows-used.is)
 
-pub returns-then-ends-in : goal.returns-then-ends-in
-returns-then-ends-in g c =
+pub returns-then-ends_in : goal.returns-then-ends_in
+returns-then-ends_in g c =
     let eq = g.K.Kind.equals in
     let decided = g.met.K.Kind.decided in
     let rows = c.args.rows.now in
@@ -36,8 +36,8 @@ returns-then-ends-in g c =
     let x = held_in c.args.letter in
     let within : m ≤ length rows = omega (arith, c.requires.within) in
     let few : m ≤ 64 = omega (arith, c.requires.within) in
-    let less : n < 512 = c.if-old-ge-MOST-LETTERS.false in
-    let ends : continues eq (last_row None (take m rows)) x ≡ true = sym c.if-ends-in.ensures.value in
+    let less : n < 512 = c.if-old-ge-MOST_LETTERS.false in
+    let ends : continues eq (last_row None (take m rows)) x ≡ true = sym c.if-ends_in.ensures.value in
     let some = some_row eq rows m n within c.requires.sound x ends in
     let last = last_row_at rows m r some within c.index-rows-used.is in
     let same = same_told eq decided (letter_of r) x (ap (λ o. continues eq o x) (sym last) ∙ ends) in
@@ -55,14 +55,14 @@ returns-then-used-rows g c =
     let m = c.args.old.rows in
     let n = c.args.old.letters in
     let within : m ≤ length rows = omega (arith, c.requires.within) in
-    let less : n < 512 = c.if-old-ge-MOST-LETTERS.false in
+    let less : n < 512 = c.if-old-ge-MOST_LETTERS.false in
     let free : length (take m rows) < min 64 (length rows) = simp length-take (omega (arith, c.if-used-rows.true, c.if-used-lt-MOST-RUNS.true)) in
     record {
       made = (
         fits_told eq g.met.K.Kind.decided (take m rows) n _ _ c.requires.sound
             ∙ and_from _ _ (lt-ltb _ _ less) (or_right _ _ (lt-ltb _ _ free)),
         pushed_letters eq rows m n within c.requires.sound c.args.letter c.if-used-lt-MOST-RUNS.true c.if-used-rows.true less
-            (sym c.if-ends-in.ensures.value),
+            (sym c.if-ends_in.ensures.value),
       );
     }
 
@@ -75,7 +75,7 @@ returns g c =
     record {
       made = (
         fits_told g.K.Kind.equals g.met.K.Kind.decided (take m rows) c.args.old.letters _ _ c.requires.sound
-            ∙ and_right _ _ (or_from _ _ (sym c.if-ends-in.ensures.value) (le-ltb _ _ full)),
+            ∙ and_right _ _ (or_from _ _ (sym c.if-ends_in.ensures.value) (le-ltb _ _ full)),
         refl,
       );
     }

@@ -24,10 +24,10 @@ loop-k-preserved g c =
       elim c.match-letter.branch [
         | in-Ok w ↦
             subst (λ y. Likes atom f y (map m (take (k + 1) xs))) (sym (ap₂ (λ u v. word u v 0 (k + 1)) w.own-is w.other-is))
-            (likes_more f m xs c.loop-k.own c.loop-k.other w.write-place.new.own w.write-place.new.other k (held_in w.in-Ok.row) within
+            (likes_more f m xs c.loop-k.own c.loop-k.other w.write_place.new.own w.write_place.new.other k (held_in w.in-Ok.row) within
             (ap (λ ys. slice_get ys k) (sym here) ∙ read_at k at next c.letter.result c.letter.ensures.value w.in-Ok.row w.in-Ok.is)
-            w.write-place.ensures.same w.write-place.ensures.same-other w.write-place.ensures.items c.loop-k.invariant.0)
-        | in-default w ↦ absurd (read_within k at next c.letter.result c.letter.ensures.value (omega (arith, within, ap length here)) _ w.in-default.is)
+            w.write_place.ensures.same w.write_place.ensures.same_other w.write_place.ensures.items c.loop-k.invariant.0)
+        | in_default w ↦ absurd (read_within k at next c.letter.result c.letter.ensures.value (omega (arith, within, ap length here)) _ w.in_default.is)
       ],
       c.letter.ensures.same ∙ c.loop-k.invariant.1,
     )
@@ -51,5 +51,5 @@ returns g c =
       };
       same = c.loop-k.invariant.1 ∙ same;
       len = omega arith;
-      len-other = omega arith;
+      len_other = omega arith;
     }

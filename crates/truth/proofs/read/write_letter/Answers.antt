@@ -13,10 +13,10 @@ use Rattle.truth.proofs.read.write_letter.Goals as goal
 pub loop-n-init : goal.loop-n-init
 loop-n-init g c = (
   like_filled g.K.Kind.atoms g.K.Kind.mirrored c.args.tag c.args.letter.now c.fill.new.row c.fill-2.new.row _ _ _ _
-      c.requires.len c.requires.len-other c.is-top.ensures.value (c.is-top-2.ensures.value ∙ ap top_tag c.turned-mirror-tag.ensures.value)
+      c.requires.len c.requires.len_other c.is_top.ensures.value (c.is_top-2.ensures.value ∙ ap top_tag c.turned-mirror_tag.ensures.value)
       c.fill.ensures.items c.fill-2.ensures.items,
   c.fill.ensures.len ∙ c.requires.len,
-  c.fill-2.ensures.len ∙ c.requires.len-other,
+  c.fill-2.ensures.len ∙ c.requires.len_other,
 )
 
 pub loop-n-preserved : goal.loop-n-preserved
@@ -26,12 +26,12 @@ loop-n-preserved g c =
     let l = means atoms mirrored (full c.args.tag c.args.letter.now) in
     let es = c.args.entries.now in
     let n = c.loop-n.n in
-    let back : means atoms mirrored (full c.turned-mirror-tag.result c.mirror-mirror.result) ≡ mirror l =
-    ap₂ (λ t x. means atoms mirrored (full t x)) c.turned-mirror-tag.ensures.value c.mirror-mirror.ensures.value
+    let back : means atoms mirrored (full c.turned-mirror_tag.result c.mirror-mirror.result) ≡ mirror l =
+    ap₂ (λ t x. means atoms mirrored (full t x)) c.turned-mirror_tag.ensures.value c.mirror-mirror.ensures.value
     ∙ mirror_means atoms mirrored g.met.K.Kind.twice c.args.tag c.args.letter.now in (
-      like_more l es n True c.loop-n.own c.loop-n.other c.put.new.row c.put-in-loop-n.new.row c.cell-flag.result c.cell-mirror-flag.result
+      like_more l es n True c.loop-n.own c.loop-n.other c.put.new.row c.put-in-loop-n.new.row c.cell-flag.result c.cell-mirror_flag.result
           c.requires.few c.loop-n-test.true c.cell-flag.ensures.value
-          (c.cell-mirror-flag.ensures.value ∙ ap (λ m. worked m c.loop-n.other c.loop-n.own (get_or es n True)) back)
+          (c.cell-mirror_flag.ensures.value ∙ ap (λ m. worked m c.loop-n.other c.loop-n.own (get_or es n True)) back)
           (c.put.ensures.items (omega arith)) (c.put-in-loop-n.ensures.items (omega arith)) c.loop-n.invariant.0,
       c.put.ensures.len ∙ c.loop-n.invariant.1,
       c.put-in-loop-n.ensures.len ∙ c.loop-n.invariant.2,
@@ -44,5 +44,5 @@ returns g c =
       items = subst (λ es. Like atom (named es) (letter_of c.loop-n.own c.loop-n.other) l)
           (take_all c.loop-n.n c.args.entries.now c.loop-n-test.false) c.loop-n.invariant.0;
       len = omega arith;
-      len-other = omega arith;
+      len_other = omega arith;
     }

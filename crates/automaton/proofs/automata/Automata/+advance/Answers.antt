@@ -84,10 +84,10 @@ returns-in-Free t c =
     let v = c.args.view in
     let S = c.args.sets.now in
     let shape = subst (Shape es c.args.i) c.in-Condition.is c.node.ensures.shape in
-    let S1 = c.advance-free.new.sets in
+    let S1 = c.advance_free.new.sets in
     let done : Advanced k (tree es c.args.i) l enter v S S1 =
     subst (λ x. Advanced (clock_of x) (tree es c.args.i) l enter v S S1) (sym c.in-Free.is)
-    (subst (λ r. Advanced clocks.free r l enter v S S1) (sym shape) (c.advance-free.ensures.moved, c.advance-free.ensures.kept)) in
+    (subst (λ r. Advanced clocks.free r l enter v S S1) (sym shape) (c.advance_free.ensures.moved, c.advance_free.ensures.kept)) in
     record { moved = done.0; kept = done.1 }
 
 pub returns-in-On : goal.returns-in-On
@@ -99,10 +99,10 @@ returns-in-On t c =
     let v = c.args.view in
     let S = c.args.sets.now in
     let shape = subst (Shape es c.args.i) c.in-Condition.is c.node.ensures.shape in
-    let S1 = c.advance-clocked.new.sets in
+    let S1 = c.advance_clocked.new.sets in
     let done : Advanced k (tree es c.args.i) l enter v S S1 =
     subst (λ x. Advanced (clock_of x) (tree es c.args.i) l enter v S S1) (sym c.in-On.is)
-    (subst (λ r. Advanced (clocks.on (atom c.in-On.c)) r l enter v S S1) (sym shape) (c.advance-clocked.ensures.moved, c.advance-clocked.ensures.kept)) in
+    (subst (λ r. Advanced (clocks.on (atom c.in-On.c)) r l enter v S S1) (sym shape) (c.advance_clocked.ensures.moved, c.advance_clocked.ensures.kept)) in
     record { moved = done.0; kept = done.1 }
 
 pub returns-in-Concat : goal.returns-in-Concat

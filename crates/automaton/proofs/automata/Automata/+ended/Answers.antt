@@ -16,15 +16,15 @@ use Rattle.automaton.specs.Views.{row, starts_in, EndedIn, Fits}
 use Rattle.automaton.proofs.Ends.{free_ended, clocked_ended, concat_ended, either_ended, fusion_ended, both_ended, none_ended}
 use Rattle.automaton.proofs.automata.Automata.+ended.Goals as goal
 
-pub starts-in-requires : goal.starts-in-requires
-starts-in-requires t c =
+pub starts_in-requires : goal.starts_in-requires
+starts_in-requires t c =
     let es = entries_of c.args.self.now in
     let shape = subst (Shape es c.args.i) c.in-Condition.is c.node.ensures.shape in
     let one : states (clock_of c.args.clock) (tree es c.args.i) ≡ 1 = ap₂ (λ x r. states (clock_of x) r) c.in-Free.is shape in
     record { len = c.requires.len; room = c.requires.fits.room 0 (omega arith) }
 
-pub starts-in-requires-in-On : goal.starts-in-requires-in-On
-starts-in-requires-in-On t c =
+pub starts_in-requires-in-On : goal.starts_in-requires-in-On
+starts_in-requires-in-On t c =
     let es = entries_of c.args.self.now in
     let shape = subst (Shape es c.args.i) c.in-Condition.is c.node.ensures.shape in
     let two : states (clock_of c.args.clock) (tree es c.args.i) ≡ 2 = ap₂ (λ x r. states (clock_of x) r) c.in-On.is shape in
@@ -44,11 +44,11 @@ pub returns-in-On : goal.returns-in-On
 returns-in-On t c =
     let es = entries_of c.args.self.now in
     let shape = subst (Shape es c.args.i) c.in-Condition.is c.node.ensures.shape in
-    let found = c.starts-in-in-On.result in
+    let found = c.starts_in-in-On.result in
     record {
       items = subst (λ k. EndedIn (clock_of k) (tree es c.args.i) c.args.view c.args.sets.now found) (sym c.in-On.is)
           (subst (λ r. EndedIn (clocks.on (atom c.in-On.field-0)) r c.args.view c.args.sets.now found) (sym shape)
-          (clocked_ended (atom c.in-On.field-0) (atom c.in-Condition.field-0) c.args.view c.args.sets.now found c.starts-in-in-On.ensures.value));
+          (clocked_ended (atom c.in-On.field-0) (atom c.in-Condition.field-0) c.args.view c.args.sets.now found c.starts_in-in-On.ensures.value));
     }
 
 pub returns-in-Concat : goal.returns-in-Concat
@@ -113,7 +113,7 @@ loop-p-preserved t c x =
     let ends : ℕ → Bool = λ p. ended k s (starts_in S (row c.args.view p m) k s x) && numbered_final k r p in
     c.gather-in-loop-p.ensures.items x
     ∙ ap₂ ◌||◌ (c.loop-p.invariant x)
-    (ap₂ ◌&&◌ (c.ended-ends.ensures.items x ∙ ap (λ (v : View). ended k s (starts_in S v k s x)) c.row.ensures.value) c.is-final.ensures.value)
+    (ap₂ ◌&&◌ (c.ended-ends.ensures.items x ∙ ap (λ (v : View). ended k s (starts_in S v k s x)) c.row.ensures.value) c.is_final.ensures.value)
     ∙ sym (ap (λ (n : ℕ). some_below n ends) (add-one c.loop-p.p))
 
 pub returns-after-loop-p : goal.returns-after-loop-p

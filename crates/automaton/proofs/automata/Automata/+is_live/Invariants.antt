@@ -1,4 +1,4 @@
 use Rattle.automaton.proofs.automata.Automata.+is_live.Given as goal
 
-abbrev pub decreases-is-live : goal.decreases-is-live
-decreases-is-live l = l.i
+abbrev pub decreases-is_live : goal.decreases-is_live
+decreases-is_live l = l.i

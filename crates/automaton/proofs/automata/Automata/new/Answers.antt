@@ -24,7 +24,7 @@ loop-count-preserved c =
       length-set nodes n x ∙ long,
       below_more (λ (i : ℕ). lower i (get_or (set nodes n x) i blank).entry ≡ true) n
           (λ i h. ap (λ y. lower i y.entry) (get_or-set_other nodes n i x blank (λ e. omega arith)) ∙ low i h)
-          (ap (λ y. lower n y.entry) (get_or-set_same nodes n x blank room) ∙ ap (lower n) entry_is ∙ sym c.if-is-lower.ensures.value),
+          (ap (λ y. lower n y.entry) (get_or-set_same nodes n x blank room) ∙ ap (lower n) entry_is ∙ sym c.if-is_lower.ensures.value),
       facts_more nodes n room x facts
           (subst (λ (e : entry.Sequence). Facts (named_sequence_of (named_sequences (entries nodes n)) e) x) (sym entry_is)
           (c.describe.ensures.facts (named_sequences (entries nodes n)) facts)),
@@ -39,8 +39,8 @@ returns c = record {
       let (_, within, long, low, facts, is) = c.loop-count.invariant in
       let whole : length c.args.table.now ≤ c.loop-count.count =
       elim c.loop-count-test.branch [
-        | then-loop-count-test+then-count-lt256+else-is-lower w ↦
-            let wrong = w.if-is-lower.ensures.value ∙ all c.loop-count.count (omega (arith, w.loop-count-test.true)) in
+        | then-loop-count-test+then-count-lt256+else-is_lower w ↦
+            let wrong = w.if-is_lower.ensures.value ∙ all c.loop-count.count (omega (arith, w.loop-count-test.true)) in
             absurd (let z : ◌≡◌ {A = ℕ} 0 1 = cc in omega arith)
         | then-loop-count-test+else-count-lt256 w ↦ omega (arith, w.if-count-lt256.false)
         | else-loop-count-test w ↦ omega (arith, w.loop-count-test.false)

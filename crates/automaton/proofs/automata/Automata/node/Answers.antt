@@ -3,9 +3,9 @@ use Rattle.automaton.specs.Automata.{entries_of}
 use Rattle.automaton.proofs.Read.{length_entries, shape_at}
 use Rattle.automaton.proofs.automata.Automata.node.Goals as goal
 
-pub offset-bounds-self-i : goal.offset-bounds-self-i
+pub offset_bounds-self-i : goal.offset_bounds-self-i
 unfolding entries_of
-offset-bounds-self-i c = let a = c.args.self.now in omega (arith, length_entries a.nodes a.count (omega arith))
+offset_bounds-self-i c = let a = c.args.self.now in omega (arith, length_entries a.nodes a.count (omega arith))
 
 pub bounds-self-i : goal.bounds-self-i
 unfolding entries_of

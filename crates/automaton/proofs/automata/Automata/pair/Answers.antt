@@ -18,8 +18,8 @@ returns c =
     record {
       first = ap (λ (m : ℕ). c.args.p / m) is;
       second = ap (λ (m : ℕ). c.args.p % m) is;
-      below-first = subst (λ (x : ℕ). c.args.p / x < n) (sym is) (quotient_below n m c.args.p c.requires.state);
-      below-second = subst (λ (x : ℕ). c.args.p % x < m) (sym is) (remainder_below n m c.args.p c.requires.state);
-      few-first = first_few _ _ _ _ c.requires.state c.requires.few;
-      few-second = second_few _ _ _ _ c.requires.state c.requires.few;
+      below_first = subst (λ (x : ℕ). c.args.p / x < n) (sym is) (quotient_below n m c.args.p c.requires.state);
+      below_second = subst (λ (x : ℕ). c.args.p % x < m) (sym is) (remainder_below n m c.args.p c.requires.state);
+      few_first = first_few _ _ _ _ c.requires.state c.requires.few;
+      few_second = second_few _ _ _ _ c.requires.state c.requires.few;
     }

@@ -6,5 +6,5 @@ use Rattle.file.proofs.sections.ConditionTableFilling.take_entry.Goals as goal
 pub returns : goal.returns
 returns c =
     let t = c.args.self.now in
-    let told = c.in-ok-entry.ensures in
+    let told = c.in_ok-entry.ensures in
     writes condition_spelled about_condition t.entries t.count (raw c.args.kind c.args.a c.args.b) _ (room t.entries t.count t.few t.long c.requires) told.0 told.1

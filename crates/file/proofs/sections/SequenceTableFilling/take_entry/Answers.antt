@@ -7,12 +7,12 @@ use Rattle.file.proofs.Sizes.{sizes_more, small_more}
 use Rattle.file.proofs.Writing.{room}
 use Rattle.file.proofs.sections.SequenceTableFilling.take_entry.Goals as goal
 
-pub invariant-of-self-2 : goal.invariant-of-self-2
-invariant-of-self-2 c =
+pub invariant_of-self-2 : goal.invariant_of-self-2
+invariant_of-self-2 c =
     let t = c.args.self.now in
-    let (is, fine, measured, small) = c.in-ok-entry.ensures in
-    let e = c.in-ok-entry.entry in
-    let z = c.in-ok-entry.size in
+    let (is, fine, measured, small) = c.in_ok-entry.ensures in
+    let e = c.in_ok-entry.entry in
+    let z = c.in_ok-entry.size in
     let free = room t.entries t.count t.few t.long c.requires in
     let free' : t.count < length t.sizes = omega (arith, free, t.long, t.sized) in
     let more : t.count + 1 ≤ 64 = omega (arith, free, t.long) in (
@@ -32,8 +32,8 @@ invariant-of-self-2 c =
 pub returns : goal.returns
 returns c =
     let t = c.args.self.now in
-    let told = c.in-ok-entry.ensures in
-    let e = c.in-ok-entry.entry in (
+    let told = c.in_ok-entry.ensures in
+    let e = c.in_ok-entry.entry in (
       e,
       told.0,
       subst (λ zs. first_no (about_sequence t.conditions zs e) ≡ none) t.decreases told.1,

@@ -4,9 +4,9 @@ use Rattle.form.specs.Place.{form_conditions, form_sequences, form_formulas, for
 use Rattle.form.proofs.Made.{new_made, new_rewriting, first_condition, first_formula}
 use Rattle.form.proofs.place.Form.new.Goals as goal
 
-pub invariant-of-result : goal.invariant-of-result
+pub invariant_of-result : goal.invariant_of-result
 unfolding conditions sequences formulas
-invariant-of-result c =
+invariant_of-result c =
     let new = c.new.ensures in (
       (refl, refl, refl),
       (

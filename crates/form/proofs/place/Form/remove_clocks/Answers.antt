@@ -3,10 +3,10 @@ use Rattle.form.proofs.Made.{rewritten_made, from_rewritten}
 use Rattle.form.proofs.MetPairs.{met_least}
 use Rattle.form.proofs.place.Form.remove_clocks.Goals as goal
 
-pub invariant-of-self : goal.invariant-of-self
-invariant-of-self c =
+pub invariant_of-self : goal.invariant_of-self
+invariant_of-self c =
     let p = c.args.property.now in
-    let is = c.in-ok-made.ensures.rewritten in
+    let is = c.in_ok-made.ensures.rewritten in
     let ok = is.sound in (
       (ok.long_c, ok.long_s, ok.long_f),
       (
@@ -26,8 +26,8 @@ invariant-of-self c =
 
 pub returns : goal.returns
 returns c =
-    let told = c.in-ok-made.ensures in
+    let told = c.in_ok-made.ensures in
     record { made = (told.no_no, from_rewritten _ told.rewritten); met = met_least c.args.property.now }
 
-pub returns-in-err-made : goal.returns-in-err-made
-returns-in-err-made c = record { made = search rules; met = met_least c.args.property.now }
+pub returns-in_err-made : goal.returns-in_err-made
+returns-in_err-made c = record { made = search rules; met = met_least c.args.property.now }

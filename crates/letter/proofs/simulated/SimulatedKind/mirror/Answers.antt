@@ -1,5 +1,5 @@
 use Rattle.std.proofs.Common.{refl}
-use Rattle.letter.proofs.Paths.{simulated_path}
+use Rattle.letter.specs.Paths.{simulated_path}
 use Rattle.letter.specs.Bit.{bit}
 use Rattle.letter.specs.ValuesLemmas.{swap_told}
 use Rattle.letter.proofs.simulated.SimulatedKind.mirror.Goals as goal

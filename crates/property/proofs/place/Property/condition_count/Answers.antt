@@ -4,4 +4,4 @@ use Rattle.property.proofs.place.Property.condition_count.Goals as goal
 pub returns : goal.returns
 returns c =
     let p = c.args.self.now in
-    record { value = conditions_counted p; low-bound = (within p).some_conditions; high-bound = (within p).few_conditions }
+    record { value = conditions_counted p; low_bound = (within p).some_conditions; high_bound = (within p).few_conditions }

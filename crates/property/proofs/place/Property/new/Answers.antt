@@ -4,9 +4,9 @@ use Rattle.file.specs.Accepted.{accepted}
 use Rattle.property.specs.Place.{conditions_of, sequences_of, formulas_of}
 use Rattle.property.proofs.place.Property.new.Goals as goal
 
-pub invariant-of-result : goal.invariant-of-result
+pub invariant_of-result : goal.invariant_of-result
 unfolding accepted sizes
-invariant-of-result c = (refl, (search rules, (refl, tt)))
+invariant_of-result c = (refl, (search rules, (refl, tt)))
 
 pub returns : goal.returns
 unfolding conditions_of sequences_of formulas_of

@@ -5,11 +5,11 @@ use Rattle.property.specs.Place.{formulas_of}
 use Rattle.property.proofs.Held.{within, formulas_counted}
 use Rattle.property.proofs.place.Property.root.Goals as goal
 
-pub overflow-sub-result : goal.overflow-sub-result
-overflow-sub-result c = let some = (within c.args.self.now).some_formulas in search rules
+pub overflow_sub-result : goal.overflow_sub-result
+overflow_sub-result c = let some = (within c.args.self.now).some_formulas in search rules
 
-pub offset-bounds-self-self : goal.offset-bounds-self-self
-offset-bounds-self-self c = let few = (within c.args.self.now).few_formulas in search rules
+pub offset_bounds-self-self : goal.offset_bounds-self-self
+offset_bounds-self-self c = let few = (within c.args.self.now).few_formulas in search rules
 
 pub bounds-self-self : goal.bounds-self-self
 bounds-self-self c = let few = (within c.args.self.now).few_formulas in omega arith

@@ -27,8 +27,8 @@ returns-then-count-rows g c =
       same = tt;
     }
 
-pub returns-else-count-lt-MOST-LETTERS : goal.returns-else-count-lt-MOST-LETTERS
-returns-else-count-lt-MOST-LETTERS g c =
+pub returns-else-count-lt-MOST_LETTERS : goal.returns-else-count-lt-MOST_LETTERS
+returns-else-count-lt-MOST_LETTERS g c =
     let m = min c.args.self.now.count 512 in
     let rows = c.args.self.now.rows.now in
     let full : min 512 (length rows) ≤ length (map held_in (take m rows)) = simp (length-map, length-take) (omega (arith, c.cut-count.ensures.value)) in

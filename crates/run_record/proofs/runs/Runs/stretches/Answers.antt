@@ -7,8 +7,8 @@ pub returns : goal.returns
 returns g c =
     let eq = g.K.Kind.equals in
     let rows = c.args.self.now.rows.now in
-    let told = c.count-rows.ensures in
-    let r = c.count-rows.result in
+    let told = c.count_rows.ensures in
+    let r = c.count_rows.result in
     let many : stretches eq None (spread (take r.rows rows)) ≡ length (take r.rows rows) =
     (rows_told eq g.met.K.Kind.decided (take r.rows rows) None 0 r.letters told.len).0 in
     let long : length (take r.rows rows) ≡ r.rows = simp length-take (omega (arith, told.within)) in

@@ -7,8 +7,8 @@ pub returns : goal.returns
 returns g c =
     let eq = g.K.Kind.equals in
     let rows = c.args.self.now.rows.now in
-    let told = c.count-rows.ensures in
-    let r = c.count-rows.result in
+    let told = c.count_rows.ensures in
+    let r = c.count_rows.result in
     let is : r.letters ≡ length (spread (take r.rows rows)) = omega (arith, tally_count eq (take r.rows rows) _ 0 r.letters told.len) in
     record {
       value = is ∙ ap (λ xs. length (spread xs)) told.items;

@@ -12,11 +12,11 @@ returns-in-Some g c =
     let eq = g.K.Kind.equals in
     let rows = c.args.self.now.rows.now in
     let used = c.args.self.now.used in
-    let counts = c.count-rows-counted.ensures in
+    let counts = c.count_rows-counted.ensures in
     let found : slice_get (spread (counted eq (take (min used 64) rows))) c.args.place ≡ Some (held_in c.in-Some.letter) =
-    nth_counted c.count-rows-counted.result.rows c.args.place counts.same counts.items (sym c.in-Some.ensures.value) in
+    nth_counted c.count_rows-counted.result.rows c.args.place counts.same counts.items (sym c.in-Some.ensures.value) in
     record {
-      value = (yes _ _ (lt-ltb _ _ (nth_some _ _ _ found)), (found, ap (run_content eq used) (c.find-among.ensures.same ∙ counts.same)));
+      value = (yes _ _ (lt-ltb _ _ (nth_some _ _ _ found)), (found, ap (run_content eq used) (c.find_among.ensures.same ∙ counts.same)));
       same = search rules;
     }
 
@@ -25,10 +25,10 @@ returns-in-None g c =
     let eq = g.K.Kind.equals in
     let rows = c.args.self.now.rows.now in
     let used = c.args.self.now.used in
-    let counts = c.count-rows-counted.ensures in
+    let counts = c.count_rows-counted.ensures in
     let found : slice_get (spread (counted eq (take (min used 64) rows))) c.args.place ≡ None =
-    nth_counted c.count-rows-counted.result.rows c.args.place counts.same counts.items (sym c.in-None.ensures.value) in
+    nth_counted c.count_rows-counted.result.rows c.args.place counts.same counts.items (sym c.in-None.ensures.value) in
     record {
-      value = (no_decides _ _ (le-ltb _ _ (nth_none _ _ found)), ap (run_content eq used) (c.find-among.ensures.same ∙ counts.same));
+      value = (no_decides _ _ (le-ltb _ _ (nth_none _ _ found)), ap (run_content eq used) (c.find_among.ensures.same ∙ counts.same));
       same = search rules;
     }

@@ -1,7 +1,7 @@
 -- The first no to the layout of a file, section by section.
-use Rattle.std.proofs.Common.{◌≡◌, ℕ, ◌+◌, ◌*◌, ◌<◌, ◌≤◌, Bool, true, false, ◌&&◌, leb, ◌⊎◌, List, [], ◌∷◌, ◌++◌, length, Result, sym, refl, ap, ◌∙◌, subst, ⊎_elim, arith}
+use Rattle.std.proofs.Common.{◌≡◌, ℕ, ◌+◌, ◌*◌, ◌<◌, ◌≤◌, false, ◌&&◌, leb, ◌⊎◌, List, [], ◌∷◌, ◌++◌, length, Result, ap, ◌∙◌, subst, ⊎_elim}
 use mathlib.Core.Option.{none, some}
-use Rattle.std.proofs.lemmas.Bool.{le-leb, lt-leb, and_from, and_left, and_right}
+use Rattle.std.proofs.lemmas.Bool.{le-leb, lt-leb, and_left, and_right}
 use Rattle.answer.specs.Questions.{Question, ◌otherwise◌, first_no}
 use Rattle.answer.proofs.FirstNo.{pass, stop}
 use Rattle.file.specs.declared.refusal.Refusal.{Refusal}

@@ -1,14 +1,11 @@
 -- The questions to a whole file, section by section, and the tables that its entries fill.
-use Rattle.std.proofs.Common.{◌≡◌, ℕ, zero, suc, ◌+◌, ◌*◌, ◌<◌, ◌≤◌, Bool, true, false, ◌&&◌, List, [], ◌∷◌, ◌++◌, length, take, drop, Some, None, Ok, sym, refl, ap, ◌∙◌, subst, ap₂, arith, length-drop}
+use Rattle.std.proofs.Common.{◌≡◌, ℕ, zero, suc, ◌+◌, ◌*◌, ◌≤◌, true, false, List, [], ◌∷◌, ◌++◌, length, take, drop, Some, None, Ok, sym, refl, ap, ◌∙◌, ap₂, arith, length-drop}
 use mathlib.Core.Option.{Option, none, some}
-use Rattle.std.proofs.lemmas.List.{take_rest, length-take-le, length_push}
+use Rattle.std.proofs.lemmas.List.{take_rest, length-take-le}
 use Rattle.std.proofs.lemmas.Bool.{and_from}
 use Rattle.std.specs.declared.option.Option as std
 use Rattle.answer.specs.Questions.{Question, ◌otherwise◌, first_no}
 use Rattle.answer.proofs.FirstNo.{pass, stop, both_pass}
-use Rattle.psl.specs.declared.entry.Condition.{Condition}
-use Rattle.psl.specs.declared.entry.Sequence.{Sequence}
-use Rattle.psl.specs.declared.entry.Formula.{Formula}
 use Rattle.file.specs.declared.refusal.Refusal.{Refusal}
 use Rattle.file.specs.declared.refusal.Reason.{Reason}
 use Rattle.file.specs.declared.refusal.Section.{Section}

@@ -1,5 +1,5 @@
 -- A table with one entry more.
-use Rattle.std.proofs.Common.{◌≡◌, ℕ, ◌+◌, ◌<◌, ◌≤◌, List, [], ◌∷◌, ◌++◌, length, take, set, Some, Ok, Option, sym, refl, ap, subst, arith}
+use Rattle.std.proofs.Common.{◌≡◌, ℕ, ◌+◌, ◌<◌, ◌≤◌, List, length, take, set, Some, Ok, Option, sym, refl, subst, arith}
 use mathlib.Core.Option.{none}
 use Rattle.std.proofs.lemmas.List.{take_more_set, length-take-le}
 use Rattle.answer.specs.Questions.{Question, first_no}

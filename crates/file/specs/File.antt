@@ -1,5 +1,5 @@
 -- The questions put to a property file, and the entries that an accepted one spells.
-use Rattle.std.specs.Prelude.{ℕ, ◌+◌, ◌*◌, Bool, ◌&&◌, leb, List, [], ◌∷◌, ◌++◌, length, take, drop, Some, None, Option, nat_le, slice_index}
+use Rattle.std.specs.Prelude.{ℕ, ◌+◌, ◌*◌, ◌&&◌, leb, List, [], ◌∷◌, ◌++◌, length, take, drop, Some, None, Option, nat_le, slice_index}
 use Rattle.answer.specs.Questions.{Question, ◌otherwise◌}
 use Rattle.psl.specs.declared.entry.Condition.{Condition}
 use Rattle.psl.specs.declared.entry.Sequence.{Sequence}

@@ -1,5 +1,5 @@
 -- The questions put to an entry: what its section asks of it, over the entries before it.
-use Rattle.std.specs.Prelude.{◌≡◌, ℕ, ◌≤◌, Bool, true, false, ◌||◌, List, [], ◌∷◌, ◌++◌, length, Some, None, Ok, Err, Option, Result, nat_le, nat_lt}
+use Rattle.std.specs.Prelude.{◌≡◌, ℕ, ◌≤◌, false, ◌||◌, List, [], ◌∷◌, length, Some, None, Ok, Err, Option, Result, nat_le, nat_lt}
 use Rattle.std.proofs.Math.Option.{none, some}
 use Rattle.answer.specs.Questions.{Question, ◌otherwise◌, first_no}
 use Rattle.psl.specs.declared.entry.Condition.{Condition}

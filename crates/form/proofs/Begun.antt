@@ -1,5 +1,5 @@
 -- A draft that has only the property's conditions.
-use Rattle.std.proofs.Common.{◌≡◌, ℕ, ◌<◌, ◌≤◌, true, List, length, get_or, take, sym, refl, ap, ◌∙◌, subst, arith}
+use Rattle.std.proofs.Common.{◌≡◌, ℕ, ◌<◌, true, List, length, get_or, take, sym, ap, subst, arith}
 use Rattle.std.proofs.lemmas.List.{length-take-le}
 use Rattle.psl.specs.Syntax.{falsity}
 use Rattle.psl.specs.Table.{conditions}
@@ -9,7 +9,7 @@ use Rattle.property.specs.declared.place.Property.{Property}
 use Rattle.property.specs.Place.{conditions_of, condition_trees}
 use Rattle.property.proofs.Held.{condition_fine}
 use Rattle.form.specs.declared.draft.Draft as code
-use Rattle.form.specs.Draft.{conditions_in, sequences_in, formulas_in, Sound, ConditionIs}
+use Rattle.form.specs.Draft.{conditions_in}
 use Rattle.form.specs.SequenceImages.{Carries, Fresh}
 use Rattle.form.proofs.Held.{nth_there}
 use Rattle.form.proofs.MetPairs.{few_conditions}

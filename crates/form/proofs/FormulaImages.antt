@@ -1,10 +1,10 @@
 -- The image of a formula entry, over the images of its parts.
-use Rattle.std.proofs.Common.{◌≡◌, ℕ, ◌+◌, ◌*◌, ◌<◌, ◌≤◌, Bool, true, false, ◌&&◌, ltb, List, [], ◌∷◌, ◌++◌, length, get_or, take, sym, refl, ap, ◌∙◌, subst, ap₂, arith, get_or-take}
+use Rattle.std.proofs.Common.{◌≡◌, ℕ, ◌+◌, ◌*◌, ◌<◌, true, ltb, List, length, get_or, take, sym, refl, ap, ◌∙◌, subst, ap₂, arith, get_or-take}
 use Rattle.std.proofs.lemmas.Bool.{ltb-true, and_parts}
-use Rattle.psl.specs.Syntax.{Condition, Sequence, Formula, falsity, empty, strong, weak, strong_sequence, weak_sequence, negated, conjoined, next, until, abort, implies}
-use Rattle.psl.specs.Removal.{unclock, unclock_sequence}
+use Rattle.psl.specs.Syntax.{Condition, Formula, falsity, strong, weak, strong_sequence, weak_sequence, negated, conjoined, next, until, abort, implies}
+use Rattle.psl.specs.Removal.{unclock}
 use Rattle.form.specs.Draft.{on_tick_of}
-use Rattle.psl.specs.Table.{grow, condition_of, conditions, sequence_of, sequences, formula_of, formulas, nothing}
+use Rattle.psl.specs.Table.{conditions, sequences, formula_of, formulas, nothing}
 use Rattle.psl.specs.declared.entry.Formula as entryF
 use Rattle.psl.specs.declared.entry.Formula.TheVariants as f
 use Rattle.psl.proofs.Grow.{grow_at}
@@ -13,7 +13,7 @@ use Rattle.property.specs.declared.place.Property.{Property}
 use Rattle.property.specs.Place.{conditions_of, sequences_of, formulas_of, condition_trees, sequence_trees, formula_trees}
 use Rattle.form.specs.Entries.{FormulaAt}
 use Rattle.form.specs.declared.draft.Draft as code
-use Rattle.form.specs.Draft.{conditions_in, sequences_in, formulas_in, FormulaIs, AddedFormula, Built, formula_in, Grows, Sound}
+use Rattle.form.specs.Draft.{conditions_in, sequences_in, formulas_in, AddedFormula, Built, formula_in}
 use Rattle.form.specs.SequenceImages.{sequence_image, SequencePlaced}
 use Rattle.form.specs.FormulaImages.{formula_image, ForParts, FormulaPlaced, WroteFormula}
 use Rattle.form.specs.Pairs.{formula_adds_conditions, formula_adds_formulas}

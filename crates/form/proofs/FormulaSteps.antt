@@ -1,5 +1,5 @@
 -- The pass over the pairs of formulas and clocks.
-use Rattle.std.proofs.Common.{◌≡◌, ℕ, zero, suc, ◌+◌, ◌*◌, ◌/◌, ◌%◌, ◌<◌, ◌≤◌, Bool, true, false, ◌&&◌, ltb, ◌≢◌, ◌⊎◌, List, [], ◌∷◌, ◌++◌, length, get_or, set, sym, refl, ap, ◌∙◌, subst, ap₂, inl, inr, ⊎_elim, add-one, arith, length-set, get_or-set_other, get_or-set_same}
+use Rattle.std.proofs.Common.{◌≡◌, ℕ, ◌+◌, ◌*◌, ◌/◌, ◌%◌, ◌<◌, ◌≤◌, Bool, true, false, ltb, ◌≢◌, List, length, get_or, set, sym, ap, ◌∙◌, subst, ap₂, ⊎_elim, arith, length-set, get_or-set_other, get_or-set_same}
 use Rattle.std.proofs.lemmas.Bool.{ltb-true, and_parts, cases_lt, both_ways}
 use Rattle.psl.specs.declared.entry.Formula as entryF
 use Rattle.psl.specs.declared.entry.Formula.TheVariants as f
@@ -8,10 +8,10 @@ use Rattle.property.specs.declared.place.Property.{Property}
 use Rattle.property.specs.Place.{conditions_of, sequences_of, formulas_of}
 use Rattle.form.proofs.Held.{held_formula}
 use Rattle.form.specs.declared.draft.Draft as code
-use Rattle.form.specs.Draft.{ConditionIs, SequenceIs, FormulaIs, Grows, Sound, Room}
+use Rattle.form.specs.Draft.{FormulaIs, Room}
 use Rattle.form.specs.Pairs.{key, formula_adds_conditions, formula_adds_formulas, total}
-use Rattle.form.specs.SequenceImages.{sequence_image, Carries, SequencePlaced, Marked, SequencesWritten}
-use Rattle.form.specs.FormulaImages.{formula_image, ForParts, FormulaPlaced, WroteFormula, FormulasClosed, FormulasWritten, FormulasStand}
+use Rattle.form.specs.SequenceImages.{SequencePlaced, Marked}
+use Rattle.form.specs.FormulaImages.{formula_image, ForParts, FormulaPlaced, WroteFormula, FormulasClosed, FormulasStand}
 use Rattle.form.proofs.Totals.{total_mono, total_yes, total_no}
 use Rattle.form.proofs.Grown.{keep_condition, keep_sequence, keep_formula, grows_twice}
 use Rattle.form.proofs.SequenceSteps.{whole, inside, clock_small, entry_of, clock_of}

@@ -1,5 +1,5 @@
 -- The entries that a property holds, by their numbers.
-use Rattle.std.proofs.Common.{◌≡◌, ℕ, zero, suc, ◌<◌, true, List, [], ◌∷◌, length, get_or, Some, refl, arith}
+use Rattle.std.proofs.Common.{◌≡◌, ℕ, zero, suc, ◌<◌, List, [], ◌∷◌, length, get_or, Some, refl, arith}
 use Rattle.std.specs.List.{slice_get}
 use Rattle.psl.specs.declared.entry.Sequence.TheVariants as s
 use Rattle.psl.specs.declared.entry.Formula.TheVariants as f

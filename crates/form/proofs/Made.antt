@@ -1,10 +1,9 @@
 -- What a form place says for ever: where its root is, and what it is.
-use Rattle.std.proofs.Common.{◌≡◌, ℕ, zero, suc, ◌-◌, ◌<◌, ◌≤◌, Bool, true, false, ◌&&◌, ◌||◌, eqb, ltb, ◌⊎◌, ◌↔◌, List, [], ◌∷◌, length, get_or, sym, refl, ap, ◌∙◌, subst, ap₂, inl, inr, ⊎_elim, arith}
+use Rattle.std.proofs.Common.{◌≡◌, ℕ, zero, suc, ◌-◌, ◌<◌, true, ltb, ◌⊎◌, ◌↔◌, List, [], ◌∷◌, length, get_or, sym, refl, ap, ◌∙◌, subst, ap₂, inl, inr, ⊎_elim, arith}
 use native.Mathlib.Decide.{ℕ_discrete}
 use Rattle.std.proofs.lemmas.List.{length-take-le}
 use Rattle.std.proofs.lemmas.Bool.{ltb-true, lt-ltb, eqb-true, eq-eqb, and_parts, and_from, or_cases, or_left, or_right}
 use Rattle.psl.specs.Syntax.{Formula, truth, falsity, weak, Condition-discrete, Sequence-discrete, Formula-discrete}
-use Rattle.psl.specs.Word.{Word}
 use Rattle.psl.specs.Unclocked.{UnclockedSatisfies}
 use Rattle.psl.specs.Removal.{unclock}
 use Rattle.psl.specs.Table.{conditions, sequences, formulas, nothing}
@@ -18,9 +17,8 @@ use Rattle.property.specs.declared.place.Property.{Property}
 use Rattle.property.specs.Place.{conditions_of, sequences_of, formulas_of, condition_trees, sequence_trees, formula_trees, property_tree}
 use Rattle.form.specs.declared.draft.Draft as code
 use Rattle.form.specs.declared.place.Form.{Form}
-use Rattle.form.specs.Draft.{conditions_in, sequences_in, formulas_in, formula_in, Sound, AllNamed}
+use Rattle.form.specs.Draft.{conditions_in, sequences_in, formulas_in, formula_in, AllNamed}
 use Rattle.form.specs.FormulaImages.{formula_image}
-use Rattle.form.specs.Limits.{conditions_needed, sequences_needed, formulas_needed}
 use Rattle.form.specs.Made.{answer, same_formula, rewriting, rewrites, as_new, made}
 use Rattle.form.specs.Rewritten.{Rewritten}
 use Rattle.form.specs.Origins.{FromImages}

@@ -1,5 +1,5 @@
 -- The marks that are made are the least closed ones.
-use Rattle.std.proofs.Common.{◌≡◌, ℕ, zero, suc, ◌+◌, ◌-◌, ◌*◌, ◌<◌, ◌≤◌, Bool, true, false, List, length, get_or, set, replicate, sym, refl, ap, ◌∙◌, subst, ⊎_elim, arith, length-set}
+use Rattle.std.proofs.Common.{◌≡◌, ℕ, zero, suc, ◌-◌, ◌*◌, ◌<◌, ◌≤◌, Bool, true, false, List, length, get_or, set, replicate, refl, ap, ◌∙◌, ⊎_elim, arith, length-set}
 use Rattle.std.proofs.lemmas.Bool.{both_ways}
 use Rattle.property.specs.declared.place.Property.{Property}
 use Rattle.property.specs.Place.{conditions_of, sequences_of, formulas_of}
@@ -8,7 +8,7 @@ use Rattle.form.proofs.Held.{held_formula}
 use Rattle.form.specs.Pairs.{key}
 use Rattle.form.specs.SequenceImages.{Marked, SequencesClosed}
 use Rattle.form.specs.FormulaImages.{FormulasClosed}
-use Rattle.form.specs.Met.{Marks, unmarked, root_marked, formulas_met, met, meet_sequences, meet_formulas, Within, Clocks, Closed, LeastClosed}
+use Rattle.form.specs.Met.{Marks, unmarked, root_marked, formulas_met, met, meet_sequences, Within, Closed, LeastClosed}
 use Rattle.form.proofs.FormulaSteps.{for_parts}
 use Rattle.form.proofs.SequenceMarks as sequence
 use Rattle.form.proofs.PutMarks.{put_same, put_only}

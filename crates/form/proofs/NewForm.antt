@@ -1,5 +1,5 @@
 -- The weak condition true, and its rewriting under the clock true, say the same.
-use Rattle.std.proofs.Common.{ℕ, zero, suc, ◌⊎◌, ◌↔◌, List, [], ◌∷◌, inl, inr}
+use Rattle.std.proofs.Common.{ℕ, zero, suc, ◌↔◌, List, [], ◌∷◌, inl, inr}
 use Rattle.psl.specs.Syntax.{truth, weak}
 use Rattle.psl.specs.Letter.{Letter, top, bottom, ordinary}
 use Rattle.psl.specs.Word.{Word, Tail, with_tail, end, tops, bottoms, mir, seen, Place, Holds, front, Tick}

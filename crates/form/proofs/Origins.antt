@@ -1,7 +1,7 @@
 -- The parts of a property's rewriting come from the property.
-use Rattle.std.proofs.Common.{◌≡◌, ℕ, zero, suc, ◌+◌, ◌-◌, ◌<◌, ◌≤◌, Bool, true, false, ◌&&◌, ltb, List, [], ◌∷◌, map, length, get_or, take, Some, sym, refl, ap, ◌∙◌, subst, ⊎_elim, arith, get_or-take}
+use Rattle.std.proofs.Common.{◌≡◌, ℕ, zero, suc, ◌-◌, ◌<◌, ◌≤◌, true, ltb, List, [], ◌∷◌, map, length, get_or, take, Some, sym, refl, ap, ◌∙◌, subst, arith, get_or-take}
 use Rattle.std.specs.List.{slice_get}
-use Rattle.std.proofs.lemmas.Bool.{ltb-true, and_parts, cases_lt}
+use Rattle.std.proofs.lemmas.Bool.{ltb-true, and_parts}
 use Rattle.psl.specs.Syntax.{Condition, Sequence, Formula, empty, falsity, strong, weak, strong_sequence, weak_sequence, negated, conjoined, next, until, abort, implies, formula_at}
 use Rattle.psl.specs.Table.{sequence_of, sequences, formula_of, nothing, size}
 use Rattle.psl.specs.Removal.{unclock}
@@ -13,7 +13,7 @@ use Rattle.property.specs.declared.place.Property.{Property}
 use Rattle.property.specs.Place.{conditions_of, sequences_of, formulas_of, condition_trees, sequence_trees, formula_trees, property_tree}
 use Rattle.property.proofs.Held.{size_fine}
 use Rattle.property.proofs.Trees.{sizes_of_trees}
-use Rattle.form.specs.Origins.{SmallImage, FromImages, Sized}
+use Rattle.form.specs.Origins.{FromImages, Sized}
 use Rattle.form.specs.Made.{rewriting}
 use Rattle.form.proofs.Held.{held_formula}
 use Rattle.form.proofs.MetPairs.{some_formulas}

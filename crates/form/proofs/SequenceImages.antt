@@ -1,9 +1,9 @@
 -- The image of an entry, over the images of its operands.
-use Rattle.std.proofs.Common.{◌≡◌, ℕ, ◌+◌, ◌*◌, ◌<◌, ◌≤◌, Bool, true, false, ◌&&◌, ltb, List, [], ◌∷◌, ◌++◌, length, get_or, take, sym, refl, ap, ◌∙◌, subst, ap₂, arith, get_or-take}
+use Rattle.std.proofs.Common.{◌≡◌, ℕ, ◌+◌, ◌*◌, ◌<◌, true, ◌&&◌, ltb, List, length, get_or, take, sym, refl, ap, ◌∙◌, subst, ap₂, arith, get_or-take}
 use Rattle.std.proofs.lemmas.Bool.{ltb-true, and_parts}
-use Rattle.psl.specs.Syntax.{Condition, Sequence, falsity, empty, condition, concat, fusion, either, both, star, sequence_at}
+use Rattle.psl.specs.Syntax.{Sequence, falsity, empty, condition, concat, fusion, either, both, star}
 use Rattle.psl.specs.Removal.{unclock_sequence}
-use Rattle.psl.specs.Table.{grow, condition_of, conditions, sequence_of, sequences}
+use Rattle.psl.specs.Table.{conditions, sequence_of, sequences}
 use Rattle.psl.specs.declared.entry.Sequence as entryS
 use Rattle.psl.specs.declared.entry.Sequence.TheVariants as s
 use Rattle.psl.proofs.Grow.{grow_at}
@@ -12,9 +12,9 @@ use Rattle.property.specs.declared.place.Property.{Property}
 use Rattle.property.specs.Place.{conditions_of, sequences_of, condition_trees, sequence_trees}
 use Rattle.form.specs.Entries.{SequenceAt}
 use Rattle.form.specs.declared.draft.Draft as code
-use Rattle.form.specs.Draft.{conditions_in, sequences_in, ConditionIs, SequenceIs, AddedSequence, Grows, Sound}
+use Rattle.form.specs.Draft.{conditions_in, sequences_in, AddedSequence}
 use Rattle.form.specs.Pairs.{sequence_adds_conditions, sequence_adds_sequences}
-use Rattle.form.specs.SequenceImages.{sequence_image, Carries, ForOperands, SequencePlaced, WroteSequence}
+use Rattle.form.specs.SequenceImages.{sequence_image, ForOperands, SequencePlaced, WroteSequence}
 use Rattle.form.proofs.Grown.{sequence_as}
 
 module _ (p : Property) where

@@ -1,5 +1,5 @@
 -- The pass over the pairs of sequences and clocks.
-use Rattle.std.proofs.Common.{◌≡◌, ℕ, zero, suc, ◌+◌, ◌*◌, ◌/◌, ◌%◌, ◌<◌, ◌≤◌, Bool, true, false, ◌&&◌, ltb, ◌≢◌, ◌⊎◌, List, [], ◌∷◌, ◌++◌, length, get_or, set, sym, refl, ap, ◌∙◌, subst, ap₂, inl, inr, ⊎_elim, add-one, arith, length-set, get_or-set_other, get_or-set_same}
+use Rattle.std.proofs.Common.{◌≡◌, ℕ, ◌+◌, ◌*◌, ◌/◌, ◌%◌, ◌<◌, ◌≤◌, Bool, true, false, ltb, ◌≢◌, List, length, get_or, set, sym, ap, ◌∙◌, subst, ap₂, ⊎_elim, arith, length-set, get_or-set_other, get_or-set_same}
 use Rattle.std.proofs.lemmas.Bool.{ltb-true, and_parts, cases_lt, both_ways}
 use Rattle.psl.specs.declared.entry.Sequence as entryS
 use Rattle.psl.specs.declared.entry.Sequence.TheVariants as s
@@ -8,9 +8,9 @@ use Rattle.property.specs.declared.place.Property.{Property}
 use Rattle.property.specs.Place.{conditions_of, sequences_of}
 use Rattle.form.proofs.Held.{held_sequence}
 use Rattle.form.specs.declared.draft.Draft as code
-use Rattle.form.specs.Draft.{ConditionIs, SequenceIs, Grows, Sound}
+use Rattle.form.specs.Draft.{SequenceIs}
 use Rattle.form.specs.Pairs.{key, sequence_adds_conditions, sequence_adds_sequences, total}
-use Rattle.form.specs.SequenceImages.{sequence_image, Carries, ForOperands, SequencePlaced, WroteSequence, Marked, SequencesClosed, SequencesWritten, SequencesStand}
+use Rattle.form.specs.SequenceImages.{sequence_image, ForOperands, SequencePlaced, WroteSequence, Marked, SequencesClosed, SequencesStand}
 use Rattle.form.proofs.Totals.{total_mono, total_yes, total_no}
 use Rattle.form.proofs.Grown.{keep_condition, keep_sequence, grows_twice}
 

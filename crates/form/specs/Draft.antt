@@ -1,5 +1,5 @@
 -- A form in the making: its tables, what its entries are, and how it grows.
-use Rattle.std.specs.Prelude.{◌≡◌, ℕ, ◌+◌, ◌<◌, ◌≤◌, Bool, true, false, List, [], ◌∷◌, ◌++◌, length, get_or, take, slice_index_or}
+use Rattle.std.specs.Prelude.{◌≡◌, ℕ, ◌+◌, ◌<◌, ◌≤◌, Bool, true, List, ◌++◌, length, get_or, take, slice_index_or}
 use Rattle.psl.specs.Syntax.{Condition, Sequence, Formula, falsity, empty, strong, conjoined}
 use Rattle.psl.specs.Removal.{after_waiting}
 use Rattle.psl.specs.Table.{condition_of, conditions, sequence_of, sequences, formula_of, formulas, nothing}

@@ -1,5 +1,5 @@
 -- The image of a property's formula under a clock.
-use Rattle.std.specs.Prelude.{◌≡◌, ℕ, zero, suc, ◌+◌, ◌*◌, ◌/◌, ◌<◌, Bool, true, false, List, length, slice_index, slice_index_or}
+use Rattle.std.specs.Prelude.{◌≡◌, ℕ, ◌+◌, ◌*◌, ◌<◌, Bool, List, length, slice_index, slice_index_or}
 use Rattle.psl.specs.Syntax.{Formula, falsity}
 use Rattle.psl.specs.Removal.{unclock}
 use Rattle.psl.specs.Table.{nothing}

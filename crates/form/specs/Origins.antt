@@ -1,5 +1,5 @@
 -- Where the parts of a form come from: the images of the property's sequences and formulas.
-use Rattle.std.specs.Prelude.{◌≡◌, ℕ, ◌≤◌}
+use Rattle.std.specs.Prelude.{◌≡◌, ◌≤◌}
 use Rattle.psl.specs.Syntax.{Condition, Sequence, Formula, strong, weak, strong_sequence, weak_sequence, negated, conjoined, next, until, abort, implies, formula_at}
 use Rattle.psl.specs.Table.{size}
 use Rattle.psl.specs.Removal.{unclock_sequence}

@@ -1,19 +1,14 @@
 -- What a form place is asked about: its entries, its tree, and the property that it was made from.
-use Rattle.std.specs.Prelude.{◌≡◌, ℕ, ◌<◌, Bool, true, ◌⊎◌, ◌↔◌, List, [], ◌∷◌, length, slice_index_or}
+use Rattle.std.specs.Prelude.{◌≡◌, ℕ, ◌⊎◌, ◌↔◌, List, length, slice_index_or}
 use Rattle.psl.specs.Syntax as tree
 use Rattle.psl.specs.Syntax.{truth, weak}
 use Rattle.psl.specs.Word.{Word}
 use Rattle.psl.specs.Unclocked.{UnclockedSatisfies}
 use Rattle.psl.specs.Table.{conditions, sequences, formulas, nothing}
 use Rattle.psl.specs.declared.entry.Condition.{Condition}
-use Rattle.psl.specs.declared.entry.Condition.TheVariants as c
 use Rattle.psl.specs.declared.entry.Sequence.{Sequence}
-use Rattle.psl.specs.declared.entry.Sequence.TheVariants as s
 use Rattle.psl.specs.declared.entry.Formula.{Formula}
-use Rattle.psl.specs.declared.entry.Formula.TheVariants as f
-use Rattle.file.specs.Operands.{condition_names, sequence_names, formula_names}
 use Rattle.property.specs.declared.place.Property.{Property}
-use Rattle.property.specs.Place.{conditions_of, sequences_of, formulas_of}
 use Rattle.form.specs.declared.place.Form.{Form}
 use Rattle.form.specs.Draft.{conditions_in, sequences_in, formulas_in}
 use Rattle.form.specs.Limits.{conditions_needed, sequences_needed, formulas_needed}

@@ -1,6 +1,6 @@
 -- The image of a property's sequence under a clock, and where a draft has it.
 use Rattle.std.specs.Prelude.{◌≡◌, ℕ, ◌+◌, ◌<◌, Bool, true, false, List, length, slice_index, slice_index_or}
-use Rattle.psl.specs.Syntax.{Condition, Sequence, falsity, empty}
+use Rattle.psl.specs.Syntax.{Sequence, falsity, empty}
 use Rattle.psl.specs.Removal.{unclock_sequence}
 use Rattle.psl.specs.declared.entry.Sequence as entryS
 use Rattle.psl.specs.declared.entry.Sequence.TheVariants as s

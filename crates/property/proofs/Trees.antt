@@ -1,7 +1,6 @@
 -- The size of a sequence entry is the size of the tree that it denotes.
-use Rattle.std.proofs.Common.{◌≡◌, ℕ, zero, suc, List, [], ◌∷◌, ◌++◌, map, get_or, Some, sym, refl, ap, ◌∙◌, subst}
+use Rattle.std.proofs.Common.{◌≡◌, ℕ, zero, suc, List, [], ◌∷◌, ◌++◌, map, get_or, sym, refl, ap, ◌∙◌}
 use mathlib.Core.List.{map-append}
-use Rattle.std.specs.List.{slice_get}
 use Rattle.psl.specs.Syntax.{Condition, Sequence, empty}
 use Rattle.psl.specs.Table.{grow, sequence_of, sequences, size}
 use Rattle.psl.specs.declared.entry.Sequence as entry

@@ -1,6 +1,6 @@
 -- What one letter more does to the rows that count.
-use Rattle.std.proofs.Common.{◌≡◌, ℕ, zero, suc, ◌+◌, ◌-◌, ◌<◌, ◌≤◌, min, Bool, true, false, List, [], ◌∷◌, ◌++◌, length, get_or, take, set, replicate, Some, None, Option, sym, refl, ap, ◌∙◌, append_assoc, append-nil, arith, length-append, rules}
-use lib.ListN.{length_replicate}
+use Rattle.std.proofs.Common.{◌≡◌, ℕ, ◌+◌, ◌-◌, ◌<◌, ◌≤◌, min, Bool, true, false, List, [], ◌∷◌, ◌++◌, length, get_or, take, set, replicate, Some, None, Option, sym, refl, ap, ◌∙◌, append_assoc, append-nil, arith, length-append, rules}
+use lib.ListN.{length-replicate}
 use Rattle.std.proofs.lemmas.List.{take_more, take_more_set, replicate_more}
 use Rattle.letter.specs.declared.full.Tagged.{Tagged}
 use Rattle.letter.specs.Full.{Full, held_in}
@@ -45,7 +45,7 @@ module _ {L : Type 0} (eq : L → L → Bool) (rows : List (Run L)) (m n : ℕ) 
   length_fits r some is =
       let all : length (spread (take m rows)) ≡ length (spread (take (m - 1) rows) ++ replicate r.length (letter_of r)) =
       ap (λ xs. length (spread xs)) (front rows m r some within is) ∙ ap length (spread_push (take (m - 1) rows) r) in
-      omega (arith, tally_count eq (take m rows) None 0 n sound, all, length-append (spread (take (m - 1) rows)) (replicate r.length (letter_of r)), length_replicate r.length (letter_of r))
+      omega (arith, tally_count eq (take m rows) None 0 n sound, all, length-append (spread (take (m - 1) rows)) (replicate r.length (letter_of r)), length-replicate r.length (letter_of r))
 
   -- the last stretch one longer
   pub longer_letters : (r : Run L) (x : Full L) → 0 < m → m ≤ 64 → n < 512 → r ≡ get_or rows (m - 1) r → letter_of r ≡ x

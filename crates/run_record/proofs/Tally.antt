@@ -1,6 +1,6 @@
 -- Rows that adds can have left: what they are worth, and that they stay so when a letter is added.
 use Rattle.std.proofs.Common.{◌≡◌, ℕ, zero, suc, ◌+◌, ◌≤◌, min, Bool, true, false, cond, ◌&&◌, ◌||◌, eqb, ltb, List, [], ◌∷◌, ◌++◌, length, replicate, Some, None, Decides, Option, sym, refl, ap, ◌∙◌, ap₂, arith, length-append}
-use lib.ListN.{length_replicate}
+use lib.ListN.{length-replicate}
 use Rattle.std.proofs.lemmas.Bool.{ne_eqb, le-ltb, ltb-false}
 use Rattle.letter.specs.Full.{Full, top, bottom, ordinary, same_full}
 use Rattle.run_record.specs.declared.run.Run.{Run}
@@ -44,7 +44,7 @@ module _ {L : Type 0} (eq : L → L → Bool) where
   tally_count (r ∷ rs) before sum n e =
       let q = parts before sum r rs n e in
       let later = tally_count rs (Some (letter_of r)) (sum + r.length) n q.tail in
-      omega (arith, later, length-append (replicate r.length (letter_of r)) (spread rs), length_replicate r.length (letter_of r))
+      omega (arith, later, length-append (replicate r.length (letter_of r)) (spread rs), length-replicate r.length (letter_of r))
 
   -- and at most 512
   pub tally_few : (rs : List (Run L)) (before : Option (Full L)) (sum n : ℕ) → sum ≤ 512 → tally eq before sum rs ≡ Some n → n ≤ 512

@@ -81,7 +81,7 @@ pub fn read<R: Record>(
     own: &mut [u8],
     other: &mut [u8],
 ) -> Option<usize>
-    ensures value { Read entries.now (map (means Letter-as-Kind.atoms Letter-as-Kind.mirrored) (R.Record.content «record».old).letters) own.new other.new result }
+    ensures value { Read entries.now (map (means R.Letter.Kind.atoms R.Letter.Kind.mirrored) (R.Record.content «record».old).letters) own.new other.new result }
     ensures same { «record».new ≡ «record».old }
     ensures len { length own.new ≡ length own.old }
     ensures len_other { length other.new ≡ length other.old }

@@ -1,7 +1,6 @@
 -- What is asked of judging and counting, and what their answers are.
-use Rattle.std.specs.Prelude.{Bool, List, [], ◌∷◌, map, ◌≡◌, ℕ, leb, ltb, length, get_or}
+use Rattle.std.specs.Prelude.{List, [], ◌∷◌, ℕ, leb, ltb, length, get_or}
 use Rattle.answer.specs.Questions.{Question, ◌otherwise◌}
-use Rattle.letter.specs.Full.{Full, means}
 use Rattle.psl.specs.Syntax.{Condition, falsity, empty}
 use Rattle.psl.specs.Letter.{Letter}
 use Rattle.psl.specs.Verdict as psl

@@ -6,7 +6,13 @@ use Rattle.file.proofs.read.read_sequences.Goals as goal
 
 pub invariant_of-table : goal.invariant_of-table
 unfolding sizes
-invariant_of-table c = (search rules, (search rules, (search rules, (refl, ((λ k h. absurd (omega (arith, h))), tt)))))
+invariant_of-table c = record {
+  few = search rules;
+  long = search rules;
+  sized = search rules;
+  measured = refl;
+  small = λ k h. absurd (omega (arith, h));
+}
 
 pub returns-in_err-fill : goal.returns-in_err-fill
 returns-in_err-fill c =

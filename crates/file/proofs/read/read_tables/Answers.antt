@@ -48,7 +48,7 @@ returns c =
         sequences = two.holds;
         formulas = three.holds;
         accepts = and_from _ _ limits (and_from _ _ one.fine (and_from _ _ two.fine three.fine));
-        measured = subst (λ k. take k table.sizes ≡ sizes (take k table.entries)) two.counted table.decreases;
+        measured = subst (λ k. take k table.sizes ≡ sizes (take k table.entries)) two.counted table.measured;
         long = (c.in_ok-first.first.long, table.long, table.sized, c.in_ok-third.third.long);
       },
     )

@@ -1,6 +1,5 @@
-use Rattle.std.proofs.Common.{◌≡◌, ◌+◌, sym, refl, ap, ◌∙◌, ap₂, arith}
-use Rattle.psl.specs.Syntax.{strong, conjoined, until, next, negation}
-use Rattle.form.specs.Draft.{on_tick_of}
+use Rattle.std.proofs.Common.{refl, ap, ap₂, arith}
+use Rattle.psl.specs.Syntax.{strong, conjoined, until, next}
 use Rattle.form.specs.Draft.{ConditionIs, FormulaIs, condition_in, formula_in}
 use Rattle.form.proofs.Grown.{keep_condition, keep_formula, grows_twice, formula_as}
 use Rattle.form.proofs.build.add_next.Goals as goal

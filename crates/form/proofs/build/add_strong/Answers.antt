@@ -1,6 +1,6 @@
-use Rattle.std.proofs.Common.{◌≡◌, ◌+◌, sym, refl, ap, ◌∙◌, ap₂, arith}
+use Rattle.std.proofs.Common.{refl, ap, ap₂, arith}
 use Rattle.psl.specs.Syntax.{strong, conjunction, until}
-use Rattle.form.specs.Draft.{ConditionIs, FormulaIs, Grows, condition_in, formula_in}
+use Rattle.form.specs.Draft.{ConditionIs, condition_in}
 use Rattle.form.proofs.Grown.{keep_condition, keep_formula, grows_twice, condition_as, formula_as}
 use Rattle.form.proofs.build.add_strong.Goals as goal
 

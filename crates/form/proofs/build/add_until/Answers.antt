@@ -1,7 +1,7 @@
-use Rattle.std.proofs.Common.{◌≡◌, ◌+◌, sym, refl, ap, ◌∙◌, ap₂, arith}
-use Rattle.psl.specs.Syntax.{strong, negated, conjoined, until}
-use Rattle.form.specs.Draft.{ConditionIs, FormulaIs, Grows, condition_in, formula_in}
-use Rattle.form.proofs.Grown.{keep_condition, keep_formula, grows_twice, formula_as}
+use Rattle.std.proofs.Common.{refl, ap, ap₂, arith}
+use Rattle.psl.specs.Syntax.{negated, conjoined, until}
+use Rattle.form.specs.Draft.{FormulaIs, formula_in}
+use Rattle.form.proofs.Grown.{keep_formula, grows_twice, formula_as}
 use Rattle.form.proofs.build.add_until.Goals as goal
 
 pub returns : goal.returns

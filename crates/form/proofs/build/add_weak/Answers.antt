@@ -1,8 +1,8 @@
-use Rattle.std.proofs.Common.{◌≡◌, ◌+◌, sym, refl, ap, ◌∙◌, ap₂, arith}
+use Rattle.std.proofs.Common.{refl, ap, ap₂, arith}
 use Rattle.psl.specs.Syntax.{strong, negated}
 use Rattle.psl.specs.Removal.{unclock}
-use Rattle.form.specs.Draft.{ConditionIs, FormulaIs, Grows, condition_in, formula_in}
-use Rattle.form.proofs.Grown.{keep_condition, keep_formula, grows_twice, condition_as, formula_as}
+use Rattle.form.specs.Draft.{ConditionIs, condition_in}
+use Rattle.form.proofs.Grown.{keep_condition, grows_twice, formula_as}
 use Rattle.form.proofs.build.add_weak.Goals as goal
 
 pub returns : goal.returns

@@ -1,5 +1,5 @@
-use Rattle.std.proofs.Common.{◌≡◌, ◌+◌, sym, refl, ap, ◌∙◌, ap₂, arith}
-use Rattle.psl.specs.Syntax.{conjoined, until}
+use Rattle.std.proofs.Common.{refl, ap₂, arith}
+use Rattle.psl.specs.Syntax.{until}
 use Rattle.form.specs.Draft.{FormulaIs, formula_in}
 use Rattle.form.proofs.Grown.{keep_formula, grows_twice, formula_as}
 use Rattle.form.proofs.build.on_tick.Goals as goal

@@ -1,4 +1,4 @@
-use Rattle.std.proofs.Common.{◌≡◌, get_or, sym, ap, subst}
+use Rattle.std.proofs.Common.{get_or, sym, ap, subst}
 use Rattle.psl.specs.declared.entry.Formula.TheVariants.{Strong as first}
 use Rattle.form.specs.Entries.{FormulaAt}
 use Rattle.form.proofs.Held.{held_formula}

@@ -1,4 +1,4 @@
-use Rattle.std.proofs.Common.{◌≡◌, get_or, sym, ap, subst}
+use Rattle.std.proofs.Common.{get_or, sym, ap, subst}
 use Rattle.psl.specs.declared.entry.Sequence.TheVariants.{Condition as first}
 use Rattle.form.specs.Entries.{SequenceAt}
 use Rattle.form.proofs.Held.{held_sequence}

@@ -1,4 +1,4 @@
-use Rattle.std.proofs.Common.{◌≡◌, ℕ, ◌+◌, ◌-◌, ◌*◌, ◌≤◌, length, sym, ap, ◌∙◌, arith}
+use Rattle.std.proofs.Common.{◌≡◌, ◌+◌, ◌-◌, sym, ap, ◌∙◌, arith}
 use Rattle.property.specs.Place.{sequences_of}
 use Rattle.form.specs.Met.{meet_sequences}
 use Rattle.form.proofs.SequenceMarks.{meet_yes, meet_no, meet_all}

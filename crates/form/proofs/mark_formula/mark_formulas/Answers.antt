@@ -1,4 +1,4 @@
-use Rattle.std.proofs.Common.{◌≡◌, ℕ, ◌+◌, ◌-◌, ◌*◌, ◌≤◌, length, sym, ap, ◌∙◌, ap₂, arith}
+use Rattle.std.proofs.Common.{◌≡◌, ◌+◌, ◌-◌, sym, ap, ◌∙◌, ap₂, arith}
 use Rattle.property.specs.Place.{formulas_of}
 use Rattle.form.specs.Met.{marks, meet_formulas}
 use Rattle.form.proofs.FormulaMarks.{meet_yes, meet_no, meet_all}

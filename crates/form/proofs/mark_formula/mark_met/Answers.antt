@@ -1,4 +1,4 @@
-use Rattle.std.proofs.Common.{◌≡◌, ℕ, ◌+◌, ◌-◌, ◌*◌, ◌≤◌, true, length, set, sym, ap, ◌∙◌, ap₂, arith}
+use Rattle.std.proofs.Common.{◌≡◌, ◌*◌, true, length, set, ap, ◌∙◌, ap₂, arith}
 use Rattle.property.specs.Place.{sequences_of, formulas_of}
 use Rattle.form.specs.Met.{marks, meet_formulas, meet_sequences, root_marked, formulas_met, met}
 use Rattle.form.proofs.mark_formula.mark_met.Goals as goal

@@ -1,7 +1,7 @@
-use Rattle.std.proofs.Common.{◌≡◌, ◌+◌, get_or, sym, refl, ap, ◌∙◌, ap₂, arith}
-use Rattle.psl.specs.Syntax.{falsity, negation, conjunction, condition, star, concat}
+use Rattle.std.proofs.Common.{get_or, refl, ap, ap₂, arith}
+use Rattle.psl.specs.Syntax.{falsity, conjunction, condition, star, concat}
 use Rattle.psl.specs.Table.{conditions}
-use Rattle.form.specs.Draft.{conditions_in, ConditionIs, SequenceIs, Grows}
+use Rattle.form.specs.Draft.{conditions_in, ConditionIs}
 use Rattle.form.proofs.Grown.{keep_condition, keep_sequence, grows_twice, condition_as, sequence_as}
 use Rattle.form.proofs.push.tick.Goals as goal
 

@@ -1,5 +1,4 @@
-use Rattle.std.proofs.Common.{◌≡◌, length, take, sym, ap, ◌∙◌, arith, rules}
-use Rattle.property.specs.Place.{conditions_of}
+use Rattle.std.proofs.Common.{length, take, sym, ap, ◌∙◌, arith, rules}
 use Rattle.form.proofs.MetPairs.{few_conditions}
 use Rattle.form.proofs.Begun.{fresh_is}
 use Rattle.form.proofs.rewrite.fresh.Goals as goal

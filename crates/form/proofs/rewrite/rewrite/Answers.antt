@@ -1,4 +1,4 @@
-use Rattle.std.proofs.Common.{◌≡◌, ℕ, ◌+◌, ◌-◌, ◌*◌, ◌<◌, ◌≤◌, length, get_or, sym, ap, ◌∙◌, subst, ap₂, arith, rules}
+use Rattle.std.proofs.Common.{◌-◌, ◌*◌, ◌<◌, length, get_or, sym, ap, ◌∙◌, subst, arith, rules}
 use Rattle.psl.specs.declared.entry.Sequence.TheVariants as s
 use Rattle.psl.specs.declared.entry.Formula.TheVariants as f
 use Rattle.property.specs.Place.{sequences_of, formulas_of}
@@ -8,7 +8,7 @@ use Rattle.form.specs.SequenceImages.{SequencesClosed, Marked}
 use Rattle.form.specs.FormulaImages.{FormulasClosed, formula_image}
 use Rattle.form.specs.Met.{met}
 use Rattle.form.specs.Limits.{conditions_needed, sequences_needed, formulas_needed}
-use Rattle.form.proofs.MetPairs.{met_least, some_formulas, few_formulas}
+use Rattle.form.proofs.MetPairs.{met_least, some_formulas}
 use Rattle.form.proofs.rewrite.rewrite.Goals as goal
 
 pub write_sequences-requires : goal.write_sequences-requires

@@ -1,9 +1,8 @@
-use Rattle.std.proofs.Common.{◌≡◌, ◌+◌, ◌<◌, ◌≤◌, length, get_or, sym, refl, ap, ◌∙◌, subst, ap₂, arith, rules}
+use Rattle.std.proofs.Common.{sym, refl, ap, ◌∙◌, subst, ap₂, arith}
 use Rattle.std.proofs.lemmas.Bool.{ltb-true}
-use Rattle.psl.specs.Syntax.{concat, fusion, either, both, star, condition, falsity}
+use Rattle.psl.specs.Syntax.{concat, fusion, either, both, star, condition}
 use Rattle.psl.specs.Removal.{unclock_sequence}
 use Rattle.psl.specs.declared.entry.Sequence.TheVariants as s
-use Rattle.property.specs.Place.{sequences_of}
 use Rattle.form.specs.Draft.{SequenceIs}
 use Rattle.form.specs.SequenceImages.{sequence_image}
 use Rattle.form.specs.Pairs.{sequence_adds_conditions, sequence_adds_sequences}

@@ -1,4 +1,4 @@
-use Rattle.std.proofs.Common.{◌≡◌, ℕ, ◌+◌, ◌*◌, ◌/◌, ◌%◌, ◌<◌, ◌≤◌, true, false, length, get_or, sym, refl, ap, ◌∙◌, subst, ap₂, arith, rules}
+use Rattle.std.proofs.Common.{◌+◌, ◌*◌, ◌<◌, length, sym, refl, subst, arith}
 use Rattle.property.specs.Place.{sequences_of}
 use Rattle.form.specs.SequenceImages.{SequencesStand}
 use Rattle.form.proofs.Grown.{grows_none}

@@ -1,5 +1,5 @@
-use Rattle.std.proofs.Common.{◌≡◌, ℕ, ◌+◌, ◌*◌, ◌/◌, ◌%◌, ◌<◌, ◌≤◌, true, false, length, get_or, sym, refl, ap, ◌∙◌, subst, ap₂, arith, rules}
-use Rattle.property.specs.Place.{sequences_of, formulas_of}
+use Rattle.std.proofs.Common.{◌+◌, ◌*◌, ◌<◌, length, sym, refl, subst, arith}
+use Rattle.property.specs.Place.{formulas_of}
 use Rattle.form.specs.FormulaImages.{FormulasStand}
 use Rattle.form.proofs.Grown.{grows_none}
 use Rattle.form.proofs.SequenceSteps.{inside}

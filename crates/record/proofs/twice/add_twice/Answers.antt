@@ -1,6 +1,6 @@
 use Rattle.std.proofs.Common.{◌≡◌, length, sym, ap, ◌∙◌}
 use Rattle.letter.specs.Full.{full}
-use Rattle.record.specs.Recorded.{with_letter, with_if_fits}
+use Rattle.record.specs.Recorded.{with_if_fits}
 use Rattle.record.proofs.Asked.{left_by}
 use Rattle.record.proofs.twice.add_twice.Goals as goal
 

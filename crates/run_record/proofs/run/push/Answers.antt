@@ -1,4 +1,4 @@
-use Rattle.std.proofs.Common.{◌≡◌, ◌<◌, ◌≤◌, min, true, false, length, take, None, sym, refl, ap, ◌∙◌, ⊎_elim, arith, length-take, rules}
+use Rattle.std.proofs.Common.{◌≡◌, ◌<◌, ◌≤◌, min, true, length, take, None, sym, refl, ap, ◌∙◌, ⊎_elim, arith, length-take}
 use Rattle.std.proofs.lemmas.Bool.{lt-ltb, le-ltb, and_from, and_left, and_right, or_left, or_right, or_from}
 use Rattle.letter.specs.Full.{held_in}
 use Rattle.run_record.specs.Runs.{continues, last_row, letter_of}
@@ -56,12 +56,12 @@ returns-then-used-rows g c =
     let n = c.args.old.letters in
     let within : m ≤ length rows = omega (arith, c.requires.within) in
     let less : n < 512 = c.if-old-ge-MOST_LETTERS.false in
-    let free : length (take m rows) < min 64 (length rows) = simp length-take (omega (arith, c.if-used-rows.true, c.if-used-lt-MOST-RUNS.true)) in
+    let free : length (take m rows) < min 64 (length rows) = simp length-take (omega (arith, c.if-used-rows.true, c.if-used-lt-MOST_RUNS.true)) in
     record {
       made = (
         fits_told eq g.met.K.Kind.decided (take m rows) n _ _ c.requires.sound
             ∙ and_from _ _ (lt-ltb _ _ less) (or_right _ _ (lt-ltb _ _ free)),
-        pushed_letters eq rows m n within c.requires.sound c.args.letter c.if-used-lt-MOST-RUNS.true c.if-used-rows.true less
+        pushed_letters eq rows m n within c.requires.sound c.args.letter c.if-used-lt-MOST_RUNS.true c.if-used-rows.true less
             (sym c.if-ends_in.ensures.value),
       );
     }
@@ -70,7 +70,7 @@ pub returns : goal.returns
 returns g c =
     let rows = c.args.rows.now in
     let m = c.args.old.rows in
-    let none : min 64 (length rows) ≤ m = ⊎_elim (λ h. omega (arith, h.1)) (λ h. omega (arith, h)) c.else-used-lt-MOST-RUNS.either in
+    let none : min 64 (length rows) ≤ m = ⊎_elim (λ h. omega (arith, h.1)) (λ h. omega (arith, h)) c.else-used-lt-MOST_RUNS.either in
     let full : min 64 (length rows) ≤ length (take m rows) = simp length-take (omega (arith, none, c.requires.within)) in
     record {
       made = (

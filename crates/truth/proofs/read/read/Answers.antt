@@ -7,12 +7,12 @@ use Rattle.psl.specs.Syntax.{atom}
 use Rattle.truth.specs.Rows.{named, word}
 use Rattle.truth.proofs.Letters.{read_at, read_within, likes_more, likes_all}
 use Rattle.truth.proofs.read.read.Goals as goal
-use Rattle.truth.proofs.read.read.Goals.{in-Ok, in-default}
+use Rattle.truth.proofs.read.read.Goals.{in-Ok, in_default}
 
 pub loop-k-preserved : goal.loop-k-preserved
 loop-k-preserved g c =
     let content = g.R.Record.content in
-    let m = means g.Letter.Kind.atoms g.Letter.Kind.mirrored in
+    let m = means g.R.Letter.Kind.atoms g.R.Letter.Kind.mirrored in
     let f = named c.args.entries.now in
     let xs = (content c.count-count.new.self).letters in
     let k = c.loop-k.k in
@@ -35,7 +35,7 @@ loop-k-preserved g c =
 pub returns : goal.returns
 returns g c =
     let content = g.R.Record.content in
-    let m = means g.Letter.Kind.atoms g.Letter.Kind.mirrored in
+    let m = means g.R.Letter.Kind.atoms g.R.Letter.Kind.mirrored in
     let f = named c.args.entries.now in
     let same = c.count-count.ensures.same in
     let xs = (content c.args.record.now).letters in

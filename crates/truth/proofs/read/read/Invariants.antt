@@ -8,5 +8,5 @@ use Rattle.truth.proofs.read.read.Given as goal
 abbrev pub invariant-loop-k : goal.invariant-loop-k
 invariant-loop-k g l =
     Likes atom (named l.entries) (word l.own l.other 0 l.k)
-    (map (means g.Letter.Kind.atoms g.Letter.Kind.mirrored) (take l.k (g.R.Record.content l.initial.record).letters))
+    (map (means g.R.Letter.Kind.atoms g.R.Letter.Kind.mirrored) (take l.k (g.R.Record.content l.initial.record).letters))
     × (l.record ≡ l.initial.record)

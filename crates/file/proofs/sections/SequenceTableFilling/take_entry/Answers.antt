@@ -15,19 +15,13 @@ invariant_of-self-2 c =
     let z = c.in_ok-entry.size in
     let free = room t.entries t.count t.few t.long c.requires in
     let free' : t.count < length t.sizes = omega (arith, free, t.long, t.sized) in
-    let more : t.count + 1 ≤ 64 = omega (arith, free, t.long) in (
-      more,
-      (
-        length-set t.entries t.count e ∙ t.long,
-        (
-          length-set t.sizes t.count z ∙ t.sized,
-          (
-            sizes_more t.entries t.sizes t.count e z free free' t.decreases measured,
-            (small_more t.sizes t.count z free' small t.small, tt),
-          ),
-        ),
-      ),
-    )
+    let more : t.count + 1 ≤ 64 = omega (arith, free, t.long) in record {
+      few = more;
+      long = length-set t.entries t.count e ∙ t.long;
+      sized = length-set t.sizes t.count z ∙ t.sized;
+      measured = sizes_more t.entries t.sizes t.count e z free free' t.measured measured;
+      small = small_more t.sizes t.count z free' small t.small;
+    }
 
 pub returns : goal.returns
 returns c =
@@ -36,7 +30,7 @@ returns c =
     let e = c.in_ok-entry.entry in (
       e,
       told.0,
-      subst (λ zs. first_no (about_sequence t.conditions zs e) ≡ none) t.decreases told.1,
+      subst (λ zs. first_no (about_sequence t.conditions zs e) ≡ none) t.measured told.1,
       take_more_set t.entries t.count e (room t.entries t.count t.few t.long c.requires),
       refl,
     )

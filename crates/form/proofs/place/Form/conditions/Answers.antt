@@ -1,4 +1,4 @@
-use Rattle.std.proofs.Common.{◌≡◌, length, sym, subst}
+use Rattle.std.proofs.Common.{sym, subst}
 use Rattle.psl.specs.declared.entry.Condition.TheVariants.{True as first}
 use Rattle.file.specs.Operands.{condition_names}
 use Rattle.form.specs.Draft.{AllNamed}

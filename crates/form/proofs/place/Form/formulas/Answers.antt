@@ -1,4 +1,4 @@
-use Rattle.std.proofs.Common.{◌≡◌, length, sym, subst}
+use Rattle.std.proofs.Common.{length, sym, subst}
 use Rattle.psl.specs.declared.entry.Formula.TheVariants.{Strong as first}
 use Rattle.file.specs.Operands.{formula_names}
 use Rattle.form.specs.Draft.{AllNamed}

@@ -1,4 +1,4 @@
-use Rattle.std.proofs.Common.{◌≡◌, refl, ap, ◌∙◌, ap₂, arith, rules}
+use Rattle.std.proofs.Common.{refl, arith}
 use Rattle.psl.specs.Table.{conditions, sequences, formulas}
 use Rattle.form.specs.Place.{form_conditions, form_sequences, form_formulas, form_root, source}
 use Rattle.form.proofs.Made.{new_made, new_rewriting, first_condition, first_formula}
@@ -7,22 +7,14 @@ use Rattle.form.proofs.place.Form.new.Goals as goal
 pub invariant_of-result : goal.invariant_of-result
 unfolding conditions sequences formulas
 invariant_of-result c =
-    let new = c.new.ensures in (
-      (refl, refl, refl),
-      (
-        (omega arith, omega arith, omega arith),
-        (
-          first_condition,
-          (
-            (λ k h. refl),
-            (
-              first_formula,
-              (new_made c.new.result _ 0 (omega arith) refl (new_rewriting c.new.result new.conditions new.sequences new.formulas), tt),
-            ),
-          ),
-        ),
-      ),
-    )
+    let new = c.new.ensures in record {
+      whole = (refl, refl, refl);
+      within = (omega arith, omega arith, omega arith);
+      conditions_named = first_condition;
+      sequences_named = λ k h. refl;
+      formulas_named = first_formula;
+      made = new_made c.new.result _ 0 (omega arith) refl (new_rewriting c.new.result new.conditions new.sequences new.formulas);
+    }
 
 pub returns : goal.returns
 unfolding form_conditions form_sequences form_formulas form_root source

@@ -7,22 +7,14 @@ pub invariant_of-self : goal.invariant_of-self
 invariant_of-self c =
     let p = c.args.property.now in
     let is = c.in_ok-made.ensures.rewritten in
-    let ok = is.sound in (
-      (ok.long_c, ok.long_s, ok.long_f),
-      (
-        (ok.few_c, ok.few_s, ok.few_f),
-        (
-          ok.names_c,
-          (
-            ok.names,
-            (
-              ok.names_f,
-              (rewritten_made p _ _ is, tt),
-            ),
-          ),
-        ),
-      ),
-    )
+    let ok = is.sound in record {
+      whole = (ok.long_c, ok.long_s, ok.long_f);
+      within = (ok.few_c, ok.few_s, ok.few_f);
+      conditions_named = ok.names_c;
+      sequences_named = ok.names;
+      formulas_named = ok.names_f;
+      made = rewritten_made p _ _ is;
+    }
 
 pub returns : goal.returns
 returns c =

@@ -1,4 +1,4 @@
-use Rattle.std.proofs.Common.{◌≡◌, length, sym, subst}
+use Rattle.std.proofs.Common.{length, sym, subst}
 use Rattle.psl.specs.declared.entry.Sequence.TheVariants.{Condition as first}
 use Rattle.file.specs.Operands.{sequence_names}
 use Rattle.form.specs.Draft.{AllNamed}

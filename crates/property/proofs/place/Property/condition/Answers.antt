@@ -1,4 +1,4 @@
-use Rattle.std.proofs.Common.{◌≤◌, arith}
+use Rattle.std.proofs.Common.{arith}
 use Rattle.property.specs.Place.{conditions_of}
 use Rattle.property.proofs.Held.{within, when_found, condition_fine}
 use Rattle.property.proofs.place.Property.condition.Goals as goal

@@ -1,4 +1,4 @@
-use Rattle.std.proofs.Common.{◌≡◌, true, [], ap, ◌∙◌, subst, arith}
+use Rattle.std.proofs.Common.{[], ap, ◌∙◌, arith}
 use Rattle.file.specs.Accepted.{inspected}
 use Rattle.file.specs.Rules.{condition_rules}
 use Rattle.property.specs.Place.{conditions_of}

@@ -1,4 +1,4 @@
-use Rattle.std.proofs.Common.{◌≤◌, arith}
+use Rattle.std.proofs.Common.{arith}
 use Rattle.property.specs.Place.{formulas_of}
 use Rattle.property.proofs.Held.{within, when_found, formula_fine}
 use Rattle.property.proofs.place.Property.formula.Goals as goal

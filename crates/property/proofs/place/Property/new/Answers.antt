@@ -6,7 +6,7 @@ use Rattle.property.proofs.place.Property.new.Goals as goal
 
 pub invariant_of-result : goal.invariant_of-result
 unfolding accepted sizes
-invariant_of-result c = (refl, (search rules, (refl, tt)))
+invariant_of-result c = record { accepts = refl; long = search rules; measured = refl }
 
 pub returns : goal.returns
 unfolding conditions_of sequences_of formulas_of

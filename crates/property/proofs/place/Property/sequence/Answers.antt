@@ -1,4 +1,4 @@
-use Rattle.std.proofs.Common.{◌≤◌, arith}
+use Rattle.std.proofs.Common.{arith}
 use Rattle.property.specs.Place.{sequences_of}
 use Rattle.property.proofs.Held.{within, when_found, sequence_fine}
 use Rattle.property.proofs.place.Property.sequence.Goals as goal

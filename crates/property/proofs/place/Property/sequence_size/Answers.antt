@@ -12,5 +12,5 @@ pub returns : goal.returns
 unfolding sequences_of sequence_trees
 returns c =
     let p = c.args.self.now in
-    let is = c.row.ensures ∙ ap (λ zs. slice_get zs c.args.i) p.decreases in
+    let is = c.row.ensures ∙ ap (λ zs. slice_get zs c.args.i) p.measured in
     record { value = is; tree = is ∙ ap (λ zs. slice_get zs c.args.i) (sizes_of_trees (condition_trees p) (sequences_of p)); high_bound = when_found (λ z. z ≤ 240) _ c.row.result is (size_fine p c.args.i) }

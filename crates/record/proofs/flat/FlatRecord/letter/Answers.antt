@@ -1,4 +1,4 @@
-use Rattle.std.proofs.Common.{◌≡◌, ◌<◌, ◌≤◌, min, map, length, take, refl, arith, length-take}
+use Rattle.std.proofs.Common.{◌<◌, ◌≤◌, min, map, length, take, refl, arith, length-take}
 use lib.ListN.{length-map}
 use Rattle.std.proofs.lemmas.Bool.{lt-ltb, le-ltb}
 use Rattle.letter.specs.Full.{held_in}

@@ -1,4 +1,4 @@
-use Rattle.std.proofs.Common.{◌≡◌, length, take, sym, refl, ap, ◌∙◌, arith, rules}
+use Rattle.std.proofs.Common.{◌≡◌, length, take, ap, ◌∙◌, arith, rules}
 use Rattle.run_record.specs.Runs.{spread}
 use Rattle.run_record.proofs.Tally.{tally_count, tally_few}
 use Rattle.run_record.proofs.runs.RunsRecord.count.Goals as goal

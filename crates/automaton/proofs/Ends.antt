@@ -1,9 +1,9 @@
 -- What has ended in the states of a sequence, by its parts.
-use Rattle.std.proofs.Common.{◌≡◌, ℕ, ◌<◌, ◌≤◌, Bool, true, false, ◌&&◌, ◌||◌, T, List, get_or, sym, refl, ap, ◌∙◌, ap₂, inl, inr, arith}
+use Rattle.std.proofs.Common.{◌≡◌, ℕ, Bool, true, false, ◌&&◌, ◌||◌, List, get_or, sym, ap, ◌∙◌, ap₂, inl, inr, arith}
 use Rattle.std.proofs.lemmas.Bool.Decides.{nat_tests}
 use Rattle.bits.specs.declared.places.Places.{Places}
 use Rattle.bits.specs.Member.{member}
-use Rattle.psl.specs.Syntax.{Condition, Sequence, condition, concat, fusion, either, both, empty, star}
+use Rattle.psl.specs.Syntax.{Condition, Sequence, condition, concat, fusion, either, both}
 use Rattle.psl.specs.Automaton.{State, states, null, final, any}
 use Rattle.psl.specs.Evaluation.{some_below}
 use Rattle.psl.specs.Numbered.{number, numbered_final}

@@ -1,9 +1,9 @@
 -- What is known of a sequence, from what is known of its parts.
-use Rattle.std.proofs.Common.{◌≡◌, ℕ, zero, suc, ◌+◌, ◌*◌, ◌<◌, ◌≤◌, Bool, true, false, ◌&&◌, ◌||◌, ◌⊎◌, sym, refl, ap, ◌∙◌, subst, ap₂, inl, inr, mul_comm, mul-le-mul, mul-zero, arith}
+use Rattle.std.proofs.Common.{◌≡◌, ℕ, zero, suc, ◌+◌, ◌*◌, ◌<◌, ◌≤◌, ◌&&◌, ◌⊎◌, refl, ap, ◌∙◌, ap₂, inl, inr, mul_comm, mul-le-mul, mul-zero, arith}
 use Rattle.std.proofs.lemmas.Bool.{cases_lt}
-use Rattle.psl.specs.Syntax.{Condition, truth, Sequence, condition, concat, fusion, either, both, empty, star, sequence_at}
-use Rattle.psl.specs.Automaton.{states, null, live_start}
-use Rattle.psl.specs.OptionalClock.{free, on}
+use Rattle.psl.specs.Syntax.{Condition, Sequence, condition, concat, fusion, either, both, empty, star, sequence_at}
+use Rattle.psl.specs.Automaton.{states}
+use Rattle.psl.specs.OptionalClock.{on}
 use Rattle.psl.specs.declared.entry.Sequence as entry
 use Rattle.automaton.specs.declared.node.Node.{Node}
 use Rattle.automaton.specs.Nodes.{capped, Facts}

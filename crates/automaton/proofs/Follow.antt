@@ -1,19 +1,18 @@
 -- The starts in the states after a stretch of letters, and what they have reached.
-use Rattle.std.proofs.Common.{◌≡◌, ℕ, zero, suc, ◌+◌, ◌-◌, ◌<◌, ◌≤◌, Bool, true, false, ◌&&◌, ◌||◌, eqb, ltb, leb, ◌⊎◌, List, [], ◌∷◌, ◌++◌, length, take, sym, refl, ap, ◌∙◌, subst, ap₂, inl, inr, add-one, arith}
-use Rattle.std.proofs.lemmas.Bool.{cases_lt, cases_eq, cases_order}
+use Rattle.std.proofs.Common.{◌≡◌, ℕ, zero, suc, ◌+◌, ◌-◌, ◌<◌, ◌≤◌, Bool, true, false, ◌&&◌, ◌||◌, eqb, ltb, leb, ◌⊎◌, List, [], ◌∷◌, ◌++◌, length, take, sym, refl, ap, ◌∙◌, ap₂, inl, inr, arith}
+use Rattle.std.proofs.lemmas.Bool.{cases_lt, cases_order}
 use Rattle.std.proofs.lemmas.Bool.Decides.{nat_tests}
 use Rattle.bits.specs.declared.places.Places.{Places}
 use Rattle.bits.specs.Member.{member}
 use Rattle.psl.specs.Syntax.{Sequence}
 use Rattle.psl.specs.Letter.{Letter}
-use Rattle.psl.specs.Automaton.{State, states, final, live, live_start, init, step, any, run, accepts, extends}
-use Rattle.psl.specs.Evaluation.{some_below, reach}
+use Rattle.psl.specs.Automaton.{State, init, step, any, run, accepts}
+use Rattle.psl.specs.Evaluation.{some_below}
 use Rattle.psl.specs.OptionalClock.{Clock}
 use Rattle.truth.specs.Rows.{word}
 use Rattle.automaton.specs.Clocks.{letter_at}
 use Rattle.automaton.specs.Moves.{moved, ended}
-use Rattle.automaton.specs.Reached.{inside}
-use Rattle.automaton.specs.Views.{whole, starts_in, MovedBy, EndedIn, Hopeful}
+use Rattle.automaton.specs.Views.{whole, starts_in, MovedBy, EndedIn}
 use Rattle.automaton.proofs.Moves.{any_same, any_none}
 use Rattle.automaton.proofs.PartMoves.{moved_same, ended_same}
 
@@ -44,7 +43,7 @@ module _ (own other : List ℕ) where
 
   module _ (k : Clock) (r : Sequence) where
     -- the states after the n letters from x on, if there are any
-    abbrev after : ℕ → ℕ → State k r → Bool
+    abbrev pub after : ℕ → ℕ → State k r → Bool
     after x zero q = false
     after x (suc n) q = run k r (init k r (letter_at own other x)) (word own other (suc x) n) q
 
@@ -75,7 +74,7 @@ module _ (own other : List ℕ) where
 
     module _ (lo i : ℕ) (order : lo ≤ i) where
       -- a start that is not there
-      outside : (b : Bool) (x : ℕ) → (x < lo) ⊎ (i ≤ x) → ((leb lo x && ltb x i) && b) ≡ false
+      pub outside : (b : Bool) (x : ℕ) → (x < lo) ⊎ (i ≤ x) → ((leb lo x && ltb x i) && b) ≡ false
       outside b x (inl h) = let e : leb lo x ≡ false = grind (arith, nat_tests) in ap (λ (c : Bool). (c && ltb x i) && b) e
       outside b x (inr h) = let e : ltb x i ≡ false = grind (arith, nat_tests) in ap (λ (c : Bool). (leb lo x && c) && b) e ∙ same (leb lo x)
         where
@@ -83,7 +82,7 @@ module _ (own other : List ℕ) where
           same c = grind (arith, nat_tests)
 
       -- a start that is
-      within : (b : Bool) (x : ℕ) → lo ≤ x → x < i → ((leb lo x && ltb x i) && b) ≡ b
+      pub within : (b : Bool) (x : ℕ) → lo ≤ x → x < i → ((leb lo x && ltb x i) && b) ≡ b
       within b x h g =
           let d : leb lo x ≡ true = grind (arith, nat_tests) in
           let e : ltb x i ≡ true = grind (arith, nat_tests) in

@@ -8,3 +8,4 @@ pub mod Sweep
 pub mod ConditionMoves
 pub mod Ends
 pub mod Follow
+pub mod Arrive

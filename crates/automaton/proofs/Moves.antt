@@ -1,9 +1,9 @@
 -- A letter moves the states of a sequence part by part.
-use Rattle.std.proofs.Common.{◌≡◌, Bool, true, false, ◌&&◌, ◌||◌, T, ◌⊎◌, ◌↔◌, [], ◌∷◌, sym, refl, ap, ◌∙◌, subst, ap₂, inl, inr, arith}
+use Rattle.std.proofs.Common.{◌≡◌, Bool, false, ◌&&◌, ◌||◌, T, ◌⊎◌, [], ◌∷◌, sym, ap, ◌∙◌, subst, ap₂, inl, inr, arith}
 use Rattle.std.proofs.lemmas.Bool.Decides.{nat_tests}
 use Rattle.psl.specs.Syntax.{Sequence, concat, fusion, either, both, star}
 use Rattle.psl.specs.Letter.{Letter}
-use Rattle.psl.specs.Automaton.{State, null, final, single, last, init, step, any, accepts, Completes}
+use Rattle.psl.specs.Automaton.{State, null, final, single, last, init, step, any}
 use Rattle.psl.specs.OptionalClock.{Clock}
 use Rattle.psl.proofs.Accept.{any_in, any_out, single_right, last_right, accepts_right, completes_right}
 use Rattle.psl.proofs.Tests.{and_in, and_out, or_left, or_right, or_out, same_test, iff_trans, iff_sym}

@@ -1,5 +1,5 @@
 -- The numbers of pairs.
-use Rattle.std.proofs.Common.{◌≡◌, ℕ, zero, suc, ◌+◌, ◌*◌, ◌/◌, ◌%◌, ◌<◌, ◌≤◌, ◌⊎◌, sym, refl, ap, ◌∙◌, inl, inr, mod-lt, div-lt_iff_lt-mul, mul-le-mul, mul-zero, zero-mul, arith}
+use Rattle.std.proofs.Common.{ℕ, zero, suc, ◌*◌, ◌/◌, ◌%◌, ◌<◌, ◌≤◌, mod-lt, div-lt_iff_lt-mul, mul-le-mul, mul-zero, zero-mul, arith}
 
 -- a factor is at most the product, if the product is not 0
 pub first_few : (n m p z : ℕ) → p < n * m → n * m ≤ z → n ≤ z

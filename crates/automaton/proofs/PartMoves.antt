@@ -1,18 +1,18 @@
 -- The starts in the states of a sequence, moved part by part.
-use Rattle.std.proofs.Common.{◌≡◌, ℕ, ◌+◌, ◌*◌, ◌<◌, ◌≤◌, Bool, true, false, ◌&&◌, ◌||◌, ◌⊎◌, List, get_or, sym, refl, ap, ◌∙◌, subst, ap₂, inl, inr, arith}
+use Rattle.std.proofs.Common.{◌≡◌, ℕ, ◌+◌, ◌≤◌, Bool, ◌&&◌, ◌||◌, List, get_or, sym, refl, ap, ◌∙◌, ap₂, inl, inr, arith}
 use Rattle.bits.specs.declared.places.Places.{Places}
 use Rattle.bits.specs.Member.{member}
-use Rattle.psl.specs.Syntax.{Sequence, concat, fusion, either, both, star}
+use Rattle.psl.specs.Syntax.{Sequence, concat, fusion, either, star}
 use Rattle.psl.specs.Letter.{Letter}
-use Rattle.psl.specs.Automaton.{State, states, null, final, init, step, any}
+use Rattle.psl.specs.Automaton.{State, states, null, final, init, step}
 use Rattle.psl.specs.Numbered.{number}
 use Rattle.psl.specs.OptionalClock.{Clock}
 use Rattle.psl.proofs.Number.{number_below}
 use Rattle.automaton.specs.declared.view.View.{View}
 use Rattle.automaton.specs.Moves.{moved, ended}
-use Rattle.automaton.specs.Views.{place, Fits, behind, column, row, bare, starts_in, MovedBy, EndedIn, Kept}
-use Rattle.automaton.proofs.Moves.{any_same, sum_left, either_right, concat_right, fusion_right, star_again, both_parts}
-use Rattle.automaton.proofs.Views.{place_apart, behind_place, column_place, row_place}
+use Rattle.automaton.specs.Views.{place, behind, bare, starts_in, MovedBy, Kept}
+use Rattle.automaton.proofs.Moves.{any_same, sum_left, either_right, concat_right, fusion_right, star_again}
+use Rattle.automaton.proofs.Views.{place_apart, behind_place}
 
 -- from the same states, entered alike
 pub moved_same : (k : Clock) (r : Sequence) (l : Letter) (e f : Bool) (S R : State k r → Bool) (q : State k r) → e ≡ f → ((p : State k r) → S p ≡ R p)

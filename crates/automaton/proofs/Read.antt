@@ -1,5 +1,5 @@
 -- Nodes read one after another.
-use Rattle.std.proofs.Common.{◌≡◌, ℕ, ◌+◌, ◌<◌, ◌≤◌, Bool, true, ◌&&◌, ltb, List, [], ◌∷◌, ◌++◌, map, length, get_or, take, set, sym, refl, ap, ◌∙◌, subst, ap₂, inl, inr, arith, below_more}
+use Rattle.std.proofs.Common.{◌≡◌, ℕ, ◌+◌, ◌<◌, ◌≤◌, true, ◌&&◌, ltb, List, [], ◌∷◌, ◌++◌, map, length, get_or, take, set, sym, ap, ◌∙◌, subst, ap₂, arith, below_more}
 use mathlib.Core.List.{map-append}
 use lib.ListN.{length-map}
 use Rattle.std.proofs.lemmas.List.{get_or-take, get_or-map, get_or_push, get_or_append_left, length-take-le, take_more_set, get_or-set_same, get_or-set_other}
@@ -10,7 +10,6 @@ use Rattle.psl.specs.declared.entry.Sequence as entry
 use Rattle.psl.specs.declared.entry.Sequence.TheVariants as s
 use Rattle.psl.proofs.Grow.{grow_push, grow_at, length_grow}
 use Rattle.automaton.specs.declared.node.Node.{Node}
-use Rattle.automaton.specs.Automata.{AllLower}
 use Rattle.automaton.specs.Nodes.{blank, entries, lower, Facts, FactsBelow, Shape}
 use Rattle.automaton.specs.Trees.{named_sequence_of, named_sequences, tree}
 

@@ -1,18 +1,18 @@
 -- The pairs of r&&s, moved column by column and then row by row.
-use Rattle.std.proofs.Common.{◌≡◌, ℕ, ◌+◌, ◌*◌, ◌/◌, ◌%◌, ◌<◌, ◌≤◌, Bool, true, false, ◌&&◌, ◌||◌, ◌⊎◌, List, get_or, sym, refl, ap, ◌∙◌, subst, ap₂, inl, inr, arith}
+use Rattle.std.proofs.Common.{◌≡◌, ℕ, ◌+◌, ◌*◌, ◌/◌, ◌%◌, ◌<◌, ◌≤◌, Bool, false, ◌&&◌, List, get_or, sym, refl, ap, ◌∙◌, subst, inl, inr, arith}
 use lib.Arith.{digits_div, digits_mod}
-use Rattle.std.proofs.lemmas.Bool.{cases_eq, cases_lt}
+use Rattle.std.proofs.lemmas.Bool.{cases_eq}
 use Rattle.bits.specs.declared.places.Places.{Places}
 use Rattle.bits.specs.Member.{member}
 use Rattle.psl.specs.Syntax.{Sequence, both}
 use Rattle.psl.specs.Letter.{Letter}
-use Rattle.psl.specs.Automaton.{State, states, null, final, init, step, any}
+use Rattle.psl.specs.Automaton.{State, states, init, step}
 use Rattle.psl.specs.Numbered.{number}
 use Rattle.psl.specs.OptionalClock.{Clock}
 use Rattle.psl.proofs.Number.{number_below, pair_below}
 use Rattle.automaton.specs.declared.view.View.{View}
-use Rattle.automaton.specs.Moves.{moved, ended}
-use Rattle.automaton.specs.Views.{place, Fits, column, row, bare, starts_in, MovedBy, Kept}
+use Rattle.automaton.specs.Moves.{moved}
+use Rattle.automaton.specs.Views.{place, column, row, bare, starts_in, MovedBy, Kept}
 use Rattle.automaton.proofs.PartMoves.{moved_same}
 use Rattle.automaton.proofs.Moves.{both_parts}
 use Rattle.automaton.proofs.Views.{place_apart, column_place, row_place}

@@ -1,7 +1,6 @@
 -- Where the states of parts stand.
-use Rattle.std.proofs.Common.{◌≡◌, ℕ, zero, suc, ◌+◌, ◌*◌, ◌<◌, ◌≤◌, ◌⊎◌, sym, refl, ap, ◌∙◌, subst, ap₂, inl, inr, add_assoc, mul_assoc, mul_comm, mul-le-mul, mul-zero, mul-one, mul-suc, mul-add, arith}
+use Rattle.std.proofs.Common.{◌≡◌, ℕ, zero, suc, ◌+◌, ◌*◌, ◌<◌, ◌≤◌, sym, ap, ◌∙◌, subst, add_assoc, mul_assoc, mul_comm, mul-le-mul, mul-zero, mul-suc, mul-add, arith}
 use native.Mathlib.Nat.{eq_of_mul-eq-mul_left}
-use Rattle.std.proofs.lemmas.Bool.{cases_lt, cases_eq}
 use Rattle.automaton.specs.declared.view.View.{View}
 use Rattle.automaton.specs.Views.{place, Fits, behind, column, row}
 use Rattle.psl.proofs.Number.{pair_below}

@@ -1,5 +1,5 @@
 -- What the automata of a table are of.
-use Rattle.std.specs.Prelude.{◌≡◌, ℕ, ◌<◌, Bool, true, List, length, slice_index_or}
+use Rattle.std.specs.Prelude.{◌≡◌, ℕ, ◌<◌, true, List, length, slice_index_or}
 use Rattle.psl.specs.Syntax.{Sequence}
 use Rattle.psl.specs.declared.entry.Sequence as entry
 use Rattle.psl.specs.declared.entry.Sequence.TheVariants as s

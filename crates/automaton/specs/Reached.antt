@@ -1,9 +1,8 @@
 -- The starts from which a sequence reaches a target.
-use Rattle.std.specs.Prelude.{◌≡◌, ℕ, ◌+◌, ◌-◌, ◌≤◌, Bool, ◌&&◌, List, nat_le}
+use Rattle.std.specs.Prelude.{◌≡◌, ℕ, ◌+◌, ◌-◌, Bool, ◌&&◌, List, nat_le}
 use Rattle.bits.specs.declared.places.Places.{Places}
 use Rattle.bits.specs.Member.{member}
 use Rattle.psl.specs.Syntax.{Sequence}
-use Rattle.psl.specs.Automaton.{states}
 use Rattle.psl.specs.Evaluation.{reach}
 use Rattle.psl.specs.OptionalClock.{Clock}
 use Rattle.truth.specs.Rows.{word}

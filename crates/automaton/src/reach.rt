@@ -1,7 +1,7 @@
 // Sequences followed over a stretch of letters, for all starts at once.
 ghost use Rattle.std.specs.Prelude.{◌≡◌, ℕ, ◌<◌, ◌≤◌, Bool, ◌&&◌, length};
 ghost use Rattle.bits.specs.Member.{member};
-ghost use Rattle.psl.specs.Automaton.{states as states_of, any as any_of, live as live_of_lem};
+ghost use Rattle.psl.specs.Automaton.{states as states_of, any as any_of, live as live_of};
 ghost use Rattle.psl.specs.Syntax.{empty};
 ghost use Rattle.automaton.specs.Automata.{entries_of, sequence_trees};
 ghost use Rattle.automaton.specs.Clocks.{clock_of, letter_at};

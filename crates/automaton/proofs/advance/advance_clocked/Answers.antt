@@ -1,4 +1,4 @@
-use Rattle.std.proofs.Common.{◌≡◌, Bool, not, ◌&&◌, ◌||◌, List, get_or, set, sym, ap, ◌∙◌, subst, ap₂, arith, length-set}
+use Rattle.std.proofs.Common.{◌≡◌, not, ◌&&◌, ◌||◌, List, get_or, set, sym, ap, ◌∙◌, subst, ap₂, arith}
 use Rattle.bits.specs.declared.places.Places.{Places}
 use Rattle.bits.specs.Member.{member}
 use Rattle.psl.specs.OptionalClock.{on}

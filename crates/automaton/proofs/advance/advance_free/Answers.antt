@@ -1,5 +1,4 @@
-use Rattle.std.proofs.Common.{◌≡◌, Bool, ◌&&◌, List, sym, ap, ◌∙◌, subst, arith}
-use Rattle.bits.specs.declared.places.Places.{Places}
+use Rattle.std.proofs.Common.{Bool, ◌&&◌, sym, ap, ◌∙◌, subst, arith}
 use Rattle.bits.specs.Member.{member}
 use Rattle.psl.specs.OptionalClock.{free}
 use Rattle.psl.specs.Syntax.{atom, condition}

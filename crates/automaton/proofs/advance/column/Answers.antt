@@ -1,4 +1,4 @@
-use Rattle.std.proofs.Common.{◌≡◌, ℕ, ◌+◌, ◌*◌, ◌<◌, ◌≤◌, sym, ap, ◌∙◌, subst, arith}
+use Rattle.std.proofs.Common.{sym, subst}
 use Rattle.automaton.specs.declared.view.View.{View}
 use Rattle.automaton.specs.Views.{Fits, column as column_of}
 use Rattle.automaton.proofs.Views.{fits_column, column_spread}

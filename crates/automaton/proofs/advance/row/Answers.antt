@@ -1,7 +1,7 @@
-use Rattle.std.proofs.Common.{◌≡◌, ℕ, ◌+◌, ◌*◌, ◌<◌, ◌≤◌, sym, ◌∙◌, subst, arith}
+use Rattle.std.proofs.Common.{◌*◌, sym, subst, arith}
 use Rattle.psl.proofs.Number.{pair_below}
 use Rattle.automaton.specs.declared.view.View.{View}
-use Rattle.automaton.specs.Views.{Fits, place, row as row_of}
+use Rattle.automaton.specs.Views.{Fits, row as row_of}
 use Rattle.automaton.proofs.Views.{fits_row, few_places}
 use Rattle.automaton.proofs.advance.row.Goals as goal
 

@@ -1,6 +1,6 @@
-use Rattle.std.proofs.Common.{◌≡◌, Bool, true, get_or, sym, refl, ap, ◌∙◌, subst}
+use Rattle.std.proofs.Common.{◌≡◌, true, get_or, sym, ap, ◌∙◌, subst}
 use Rattle.std.proofs.lemmas.Bool.{and_parts, ltb-true}
-use Rattle.psl.specs.Syntax.{truth, atom, Sequence, empty}
+use Rattle.psl.specs.Syntax.{truth, atom, empty}
 use Rattle.psl.specs.declared.entry.Sequence as entry
 use Rattle.psl.specs.declared.entry.Sequence.TheVariants as s
 use Rattle.automaton.specs.declared.node.Node.{Node}

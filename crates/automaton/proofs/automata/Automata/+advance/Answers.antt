@@ -1,19 +1,18 @@
-use Rattle.std.proofs.Common.{◌≡◌, ℕ, ◌<◌, ◌≤◌, Bool, false, ◌&&◌, ◌||◌, List, sym, refl, ap, ◌∙◌, subst, ap₂, arith}
-use Rattle.bits.specs.declared.places.Places.{Places}
+use Rattle.std.proofs.Common.{◌≡◌, ℕ, Bool, false, ◌&&◌, ◌||◌, sym, refl, ap, ◌∙◌, subst, ap₂, arith}
 use Rattle.bits.specs.Member.{member}
 use Rattle.psl.specs.Automaton.{states}
 use Rattle.psl.specs.Numbered.{numbered_init}
 use Rattle.psl.specs.OptionalClock as clocks
-use Rattle.psl.specs.Syntax.{atom, Sequence, condition}
+use Rattle.psl.specs.Syntax.{atom}
 use Rattle.psl.proofs.Numbered.{init_numbered}
 use Rattle.automaton.specs.declared.view.View.{View}
 use Rattle.automaton.specs.Automata.{entries_of}
 use Rattle.automaton.specs.Clocks.{clock_of, letter_at}
 use Rattle.automaton.specs.Nodes.{Shape}
 use Rattle.automaton.specs.Trees.{tree}
-use Rattle.automaton.specs.Views.{behind, column, row, MovedBy, Kept, Fits}
+use Rattle.automaton.specs.Views.{behind, column, row}
 use Rattle.automaton.proofs.PartMoves.{Advanced, enter_same, none_advanced, kept_sum, concat_moves, fusion_moves, either_moves, star_moves}
-use Rattle.automaton.proofs.Sweep.{Disjoint, Swept, swept_none, swept_more, columns_apart, rows_apart, both_moves, both_kept}
+use Rattle.automaton.proofs.Sweep.{Disjoint, Swept, swept_more, columns_apart, rows_apart, both_moves, both_kept}
 use Rattle.automaton.proofs.automata.Automata.+advance.Goals as goal
 
 pub advance-requires-in-loop-p : goal.advance-requires-in-loop-p

@@ -1,4 +1,4 @@
-use Rattle.std.proofs.Common.{ℕ, Bool, false, ◌&&◌}
+use Rattle.std.proofs.Common.{false, ◌&&◌}
 use Rattle.bits.specs.Member.{member}
 use Rattle.psl.specs.Numbered.{numbered_init}
 use Rattle.automaton.specs.Automata.{entries_of}

@@ -1,18 +1,17 @@
-use Rattle.std.proofs.Common.{◌≡◌, ℕ, suc, ◌+◌, ◌≤◌, Bool, ◌&&◌, ◌||◌, sym, ap, ◌∙◌, subst, ap₂, add-one, arith}
+use Rattle.std.proofs.Common.{◌≡◌, ℕ, Bool, ◌&&◌, ◌||◌, sym, ap, ◌∙◌, subst, ap₂, add-one, arith}
 use Rattle.bits.specs.Member.{member}
 use Rattle.psl.specs.Automaton.{states}
 use Rattle.psl.specs.Evaluation.{some_below}
 use Rattle.psl.specs.Numbered.{numbered_final}
 use Rattle.psl.specs.OptionalClock as clocks
-use Rattle.psl.specs.Syntax.{atom, Sequence}
-use Rattle.automaton.specs.declared.clock.Clock as code
+use Rattle.psl.specs.Syntax.{atom}
 use Rattle.automaton.specs.declared.view.View.{View}
 use Rattle.automaton.specs.Automata.{entries_of}
 use Rattle.automaton.specs.Clocks.{clock_of}
 use Rattle.automaton.specs.Moves.{ended}
 use Rattle.automaton.specs.Nodes.{Shape}
 use Rattle.automaton.specs.Trees.{tree}
-use Rattle.automaton.specs.Views.{row, starts_in, EndedIn, Fits}
+use Rattle.automaton.specs.Views.{row, starts_in, EndedIn}
 use Rattle.automaton.proofs.Ends.{free_ended, clocked_ended, concat_ended, either_ended, fusion_ended, both_ended, none_ended}
 use Rattle.automaton.proofs.automata.Automata.+ended.Goals as goal
 

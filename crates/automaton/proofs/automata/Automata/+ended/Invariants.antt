@@ -1,4 +1,4 @@
-use Rattle.std.proofs.Common.{◌≡◌, ℕ, Bool, ◌&&◌}
+use Rattle.std.proofs.Common.{◌≡◌, ℕ, ◌&&◌}
 use Rattle.bits.specs.Member.{member}
 use Rattle.psl.specs.Evaluation.{some_below}
 use Rattle.psl.specs.Numbered.{numbered_final}

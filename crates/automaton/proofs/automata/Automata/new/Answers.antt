@@ -1,4 +1,4 @@
-use Rattle.std.proofs.Common.{◌≡◌, ℕ, ◌+◌, ◌<◌, ◌≤◌, true, [], ◌∷◌, ◌++◌, length, get_or, take, set, sym, ap, ◌∙◌, subst, arith, length-set, below_more}
+use Rattle.std.proofs.Common.{◌≡◌, ℕ, ◌<◌, ◌≤◌, true, [], ◌∷◌, ◌++◌, length, get_or, take, set, sym, ap, ◌∙◌, subst, arith, length-set, below_more}
 use Rattle.std.proofs.lemmas.List.{get_or-set_same, get_or-set_other, take_more, take_all}
 use Rattle.psl.specs.declared.entry.Sequence as entry
 use Rattle.psl.specs.declared.entry.Sequence.TheVariants as s
@@ -7,7 +7,7 @@ use Rattle.automaton.specs.Nodes.{blank, lower, Facts, entries}
 use Rattle.automaton.specs.Trees.{named_sequence_of, named_sequences}
 use Rattle.automaton.proofs.Read.{entries_more, facts_more}
 use Rattle.automaton.proofs.automata.Automata.new.Goals as goal
-use Rattle.automaton.proofs.automata.Automata.new.Goals.{then-loop-count-test+then-count-lt256+else-is-lower, then-loop-count-test+else-count-lt256, else-loop-count-test}
+use Rattle.automaton.proofs.automata.Automata.new.Goals.{then-loop-count-test+then-count-lt256+else-is_lower, then-loop-count-test+else-count-lt256, else-loop-count-test}
 
 pub loop-count-preserved : goal.loop-count-preserved
 loop-count-preserved c =

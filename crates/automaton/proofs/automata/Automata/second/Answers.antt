@@ -1,4 +1,4 @@
-use Rattle.std.proofs.Common.{◌≡◌, ℕ, ◌+◌, ◌≤◌, sym, ap, ◌∙◌, subst, arith}
+use Rattle.std.proofs.Common.{◌≡◌, ℕ, ◌+◌, ◌≤◌, sym, ap, ◌∙◌, subst}
 use Rattle.psl.specs.Automaton.{states}
 use Rattle.automaton.specs.declared.view.View.{View}
 use Rattle.automaton.specs.Automata.{entries_of}

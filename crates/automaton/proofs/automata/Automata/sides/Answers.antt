@@ -1,4 +1,4 @@
-use Rattle.std.proofs.Common.{◌≡◌, ℕ, ◌*◌, ◌<◌, ◌≤◌, sym, ap, ◌∙◌, subst, ap₂, arith}
+use Rattle.std.proofs.Common.{◌≡◌, ℕ, ◌*◌, ◌<◌, ◌≤◌, sym, ◌∙◌, subst, ap₂, arith}
 use Rattle.psl.specs.Automaton.{states}
 use Rattle.automaton.specs.Automata.{entries_of}
 use Rattle.automaton.specs.Clocks.{clock_of}

@@ -1,5 +1,5 @@
-use Rattle.std.proofs.Common.{◌≡◌, ℕ, ◌≤◌, sym, ap, ◌∙◌, arith}
-use Rattle.psl.specs.Syntax.{truth, atom}
+use Rattle.std.proofs.Common.{◌≡◌, ◌≤◌, ap, ◌∙◌, arith}
+use Rattle.psl.specs.Syntax.{truth}
 use Rattle.psl.specs.Automaton.{states}
 use Rattle.psl.specs.OptionalClock.{on}
 use Rattle.automaton.specs.Automata.{entries_of}

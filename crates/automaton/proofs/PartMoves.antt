@@ -58,15 +58,15 @@ module _ (k : Clock) (r s : Sequence) (v : View) (apart : 1 ≤ v.stride) where
   kept_sum S0 S1 S2 one two j h =
       two j (λ p g e. h (states k r + p) (omega arith) (e ∙ behind_place v (states k r) p)) ∙ one j (λ p g e. h p (omega arith) e)
 
-  module _ (l : Letter) (enter second : ℕ → Bool) (S0 S1 S2 : List Places) (moved-r : MovedBy k r l enter v S0 S1) (kept-r : Kept (states k r) v S0 S1)
-      (moved-s : MovedBy k s l second (behind v (states k r)) S1 S2) (kept-s : Kept (states k s) (behind v (states k r)) S1 S2) where
+  module _ (l : Letter) (enter second : ℕ → Bool) (S0 S1 S2 : List Places) (moved_r : MovedBy k r l enter v S0 S1) (kept_r : Kept (states k r) v S0 S1)
+      (moved_s : MovedBy k s l second (behind v (states k r)) S1 S2) (kept_s : Kept (states k s) (behind v (states k r)) S1 S2) where
     first_moved : (q : State k r) (x : ℕ) → starts_in S2 v k (concat r s) x (inl q) ≡ moved k r l (enter x) (λ p. starts_in S0 v k (concat r s) x (inl p)) q
-    first_moved q x = first_kept S1 S2 kept-s x q ∙ moved-r q x
+    first_moved q x = first_kept S1 S2 kept_s x q ∙ moved_r q x
 
     second_moved : (q : State k s) (x : ℕ) → starts_in S2 v k (concat r s) x (inr q) ≡ moved k s l (second x) (λ p. starts_in S0 v k (concat r s) x (inr p)) q
     second_moved q x =
-        sym (behind_starts k r s v S2 x q) ∙ moved-s q x
-        ∙ moved_same k s l (second x) (second x) _ _ q refl (λ p. behind_starts k r s v S1 x p ∙ second_kept S0 S1 kept-r x p)
+        sym (behind_starts k r s v S2 x q) ∙ moved_s q x
+        ∙ moved_same k s l (second x) (second x) _ _ q refl (λ p. behind_starts k r s v S1 x p ∙ second_kept S0 S1 kept_r x p)
 
     pub concat_moves : ((x : ℕ) → second x ≡ ((enter x && null r) || ended k r (starts_in S0 v k r x))) → MovedBy k (concat r s) l enter v S0 S2
     concat_moves e (inl q) x = first_moved q x ∙ sym (sum_left k r s l (enter x) (starts_in S0 v k (concat r s) x) q)
@@ -76,7 +76,7 @@ module _ (k : Clock) (r s : Sequence) (v : View) (apart : 1 ≤ v.stride) where
     pub fusion_moves : ((x : ℕ) → second x ≡ ended k r (starts_in S1 v k r x)) → MovedBy k (fusion r s) l enter v S0 S2
     fusion_moves e (inl q) x = first_moved q x ∙ sym (sum_left k r s l (enter x) (starts_in S0 v k (concat r s) x) q)
     fusion_moves e (inr q) x =
-        second_moved q x ∙ moved_same k s l (second x) _ _ _ q (e x ∙ ended_same k r _ _ (λ p. moved-r p x)) (λ p. refl)
+        second_moved q x ∙ moved_same k s l (second x) _ _ _ q (e x ∙ ended_same k r _ _ (λ p. moved_r p x)) (λ p. refl)
         ∙ sym (fusion_right k r s l (enter x) (starts_in S0 v k (concat r s) x) q)
 
     pub either_moves : ((x : ℕ) → second x ≡ enter x) → MovedBy k (either r s) l enter v S0 S2

@@ -57,7 +57,7 @@ module _ {E : Type 0} (rules : Rules E) (s : Section) where
   -- an entry that is not decides
   pub entry_refused : (o : ℕ) (before : List E) (x : Raw) (xs : List Raw) (f : Reason) → first_no (about_entry (rules.spelled x) (rules.about before)) ≡ some f
       → first_no (about_entries rules s o before (x ∷ xs)) ≡ some (refusal s o f)
-  entry_refused o before x xs f no-is = stop _ (located s o (about_entry (rules.spelled x) (rules.about before))) _ (located_some s o f (about_entry (rules.spelled x) (rules.about before)) no-is)
+  entry_refused o before x xs f no_is = stop _ (located s o (about_entry (rules.spelled x) (rules.about before))) _ (located_some s o f (about_entry (rules.spelled x) (rules.about before)) no_is)
 
   -- what is spelled with one entry taken
   pub spelled_more : (before : List E) (x : Raw) (xs : List Raw) (e : E) → rules.spelled x ≡ Some e

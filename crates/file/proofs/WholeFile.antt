@@ -64,7 +64,7 @@ agree e = (ap (λ o. o.0) e, ap (λ o. o.1) (sym e))
 module _ (bytes : List ℕ) (n : Counts) (laid : LaidOut bytes n) (part : List ℕ) where
   entries_are : (o m p : ℕ) → part ≡ take (5 * m) (drop (o + 2) bytes) → m ≡ count_at bytes p → o ≡ p → raws part ≡ entries_at bytes p
   unfolding entries_at
-  entries_are o m p is m-is o_is = ap raws (is ∙ ap₂ (λ k q. take (5 * k) (drop (q + 2) bytes)) m-is o_is)
+  entries_are o m p is m_is o_is = ap raws (is ∙ ap₂ (λ k q. take (5 * k) (drop (q + 2) bytes)) m_is o_is)
 
   pub of_conditions : part ≡ take (5 * n.conditions) (drop 2 bytes)
       → Agree (first_no (about_conditions bytes), conditions_in bytes) (outcome condition_rules Conditions 2 (raws part))
@@ -92,12 +92,12 @@ module _ (bytes : List ℕ) (n : Counts) (laid : LaidOut bytes n) (part : List �
 pub section_read : {E : Type 0} (asked : List (Question Refusal)) (spells : List E) (rules rules' : Rules E) (s : Section) (o m : ℕ) (part : List ℕ) (t : List E) (count : ℕ)
     → count ≤ 64 → length t ≡ 64 → length part ≡ 5 * m → Agree (first_no asked, spells) (outcome rules s o (raws part))
     → Fills rules s o [] (raws part) (Ok (tt {0})) rules' (take count t) → SectionRead asked rules spells t count m
-section_read asked spells rules rules' s o m part t count few long whole (same-no, same_entries) (none_is, holds, stays) =
+section_read asked spells rules rules' s o m part t count few long whole (same_no, same_entries) (none_is, holds, stays) =
     let (all, fine) = all_taken rules s o [] (raws part) none_is in
     let counted : count ≡ m = sym (length-take-le count t (omega arith)) ∙ ap length holds ∙ all ∙ raws_length m part whole in
     let used : take m t ≡ spelled rules (raws part) = ap (λ k. take k t) (sym counted) ∙ holds in
     record {
-      no_no = same-no ∙ none_is;
+      no_no = same_no ∙ none_is;
       counted = counted;
       holds = used ∙ same_entries;
       fine = ap (inspected rules []) used ∙ fine;

@@ -28,7 +28,7 @@ module _ (p : Property) (d : code.Draft) (same : conditions_in d ≡ conditions_
       (λ k h. condition_fine p k _ (nth_there (conditions_of p) k True h))
 
   pub fresh_is : length d.conditions ≡ 256 → length d.sequences ≡ 256 → length d.formulas ≡ 256 → d.counts.sequences ≡ 0 → d.counts.formulas ≡ 0 → Fresh p d
-  fresh_is long_c long_s long_f none-s none-f =
+  fresh_is long_c long_s long_f none_s none_f =
       record {
         sound = record {
           long_c = long_c;
@@ -38,11 +38,11 @@ module _ (p : Property) (d : code.Draft) (same : conditions_in d ≡ conditions_
           few_s = omega arith;
           few_f = omega arith;
           names_c = condition_named;
-          names = λ k h. absurd (none_taken _ k d.sequences none-s h);
-          names_f = λ k h. absurd (none_taken _ k d.formulas none-f h);
+          names = λ k h. absurd (none_taken _ k d.sequences none_s h);
+          names_f = λ k h. absurd (none_taken _ k d.formulas none_f h);
         };
         carries = carried;
         count_c = count;
-        count_s = none-s;
-        count_f = none-f;
+        count_s = none_s;
+        count_f = none_f;
       }

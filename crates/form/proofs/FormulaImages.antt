@@ -72,14 +72,14 @@ module _ (p : Property) where
       -- one entry that is the image
       pub wrote : (x : entryF.Formula) (r : ℕ) → AddedFormula d d' x r → formula_of (conditions (conditions_in d)) (sequences (conditions (conditions_in d)) (sequences_in d)) (formulas (conditions (conditions_in d)) (sequences (conditions (conditions_in d)) (sequences_in d)) (formulas_in d)) x ≡ rewritten e c
           → formula_adds_conditions e ≡ 0 → formula_adds_formulas e ≡ 1 → WroteFormula p i c d d' r
-      wrote x r new same zero-c one-f =
+      wrote x r new same zero_c one_f =
           record {
             sound = new.sound;
             grows = new.grows;
             is = formula_as (same ∙ sym (image_is e told)) new.is;
-            count_c = omega (arith, new.count_c, zero-c, ap formula_adds_conditions told.is);
+            count_c = omega (arith, new.count_c, zero_c, ap formula_adds_conditions told.is);
             count_s = new.count_s;
-            count_f = omega (arith, new.count_f, one-f, ap formula_adds_formulas told.is);
+            count_f = omega (arith, new.count_f, one_f, ap formula_adds_formulas told.is);
           }
 
       pub built : (t : Formula) (r nc nf : ℕ) → Built d d' t r nc nf → t ≡ rewritten e c → formula_adds_conditions e ≡ nc → formula_adds_formulas e ≡ nf → WroteFormula p i c d d' r

@@ -19,7 +19,7 @@ use Rattle.form.proofs.PutMarks.{Put, none, one, single, double, meets_one}
 abbrev None : ℕ → ℕ → Type 0
 None a b = Unit {0}
 
-module _ (n m i c : ℕ) (few : n ≤ 64) (few-m : m ≤ 64) (small : i ≤ 63) (l : c < 64) where
+module _ (n m i c : ℕ) (few : n ≤ 64) (few_m : m ≤ 64) (small : i ≤ 63) (l : c < 64) where
   fits_m : (met : List Bool) (a b : ℕ) → length met ≡ 4096 → ltb a m ≡ true → b < 64 → key a b < length met
   fits_m met a b long q r = let h = ltb-true a m q in omega arith
 
@@ -173,8 +173,8 @@ module _ (p : Property) (few : length (conditions_of p) ≤ 64) (few_s : length 
 -- before the first key
 pub start : (p : Property) (fs ss : List Bool) → Clocks p fs → Clocks p ss → length fs ≡ 4096 → length ss ≡ 4096 → length (formulas_of p) ≤ 64
     → ((i c : ℕ) → i < length (formulas_of p) → c < 64 → 64 * length (formulas_of p) ≤ key i c → ⊥) → Inv p fs ss fs ss (64 * length (formulas_of p))
-start p fs ss clocks-in-f clocks-in-s long_f long_s few above =
-    ((λ i c l m. m), (λ i c l m. m), clocks-in-f, clocks-in-s, (λ i c there l u m. absurd (above i c there l u)), (λ fo so closed in_f in-s. (in_f, in-s)), long_f, long_s)
+start p fs ss clocks_in_f clocks_in_s long_f long_s few above =
+    ((λ i c l m. m), (λ i c l m. m), clocks_in_f, clocks_in_s, (λ i c there l u m. absurd (above i c there l u)), (λ fo so closed in_f in-s. (in_f, in-s)), long_f, long_s)
 
 abbrev pub At : Property → List Bool → List Bool → ℕ → marks.Marks → Type 0
 At p fs ss k m = Inv p fs ss m.formulas m.sequences k

@@ -29,7 +29,7 @@ last_at build es e d =
     ∙ get_or_push (grow build [] es) (build (grow build [] es) e) d (length es) (length_grow build [] es ∙ omega arith)
 
 -- entries that name only conditions that two lists share
-sequence_same : (n : ℕ) (cs ds acc-c : List Condition) (acc : List Sequence) (i : ℕ) (e : entryS.Sequence) → ((a : ℕ) → a < n → get_or ds a falsity ≡ get_or cs a falsity)
+sequence_same : (n : ℕ) (cs ds acc_c : List Condition) (acc : List Sequence) (i : ℕ) (e : entryS.Sequence) → ((a : ℕ) → a < n → get_or ds a falsity ≡ get_or cs a falsity)
     → sequence_names n i e ≡ true → sequence_of ds acc e ≡ sequence_of cs acc e
 sequence_same n cs ds x acc i (s.Condition a) h p = ap condition (h a (ltb-true a n p))
 sequence_same n cs ds x acc i (s.Concat a b) h p = refl

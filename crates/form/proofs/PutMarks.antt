@@ -75,5 +75,5 @@ module _ (i c : ℕ) (small : i ≤ 63) (l : c < 64) where
 
 -- by going down over one key
 pub meets_one : {M : Type 0} (b : Bool) (P Q : M → Type 0) (x y : M) → ((z : M) → P z → Q z) → (b ≡ true → P x) → (b ≡ false → P y) → Q (cond b x y)
-meets_one true P Q x y down yes-case no-case = down x (yes-case refl)
-meets_one false P Q x y down yes-case no-case = down y (no-case refl)
+meets_one true P Q x y down yes_case no_case = down x (yes_case refl)
+meets_one false P Q x y down yes_case no_case = down y (no_case refl)

@@ -65,13 +65,13 @@ module _ (p : Property) where
       -- one entry that is the image
       pub wrote : (x : entryS.Sequence) (r : ℕ) → AddedSequence d d' x r → sequence_of (conditions (conditions_in d)) (sequences (conditions (conditions_in d)) (sequences_in d)) x ≡ rewritten e c
           → sequence_adds_conditions e ≡ 0 → sequence_adds_sequences e ≡ 1 → WroteSequence p i c d d' r
-      wrote x r new same zero-c one-s =
+      wrote x r new same zero_c one_s =
           record {
             sound = new.sound;
             grows = new.grows;
             is = sequence_as (same ∙ sym (image_is e told)) new.is;
-            count_c = omega (arith, new.count_c, zero-c, ap sequence_adds_conditions told.is);
-            count_s = omega (arith, new.count_s, one-s, ap sequence_adds_sequences told.is);
+            count_c = omega (arith, new.count_c, zero_c, ap sequence_adds_conditions told.is);
+            count_s = omega (arith, new.count_s, one_s, ap sequence_adds_sequences told.is);
             count_f = new.count_f;
           }
 

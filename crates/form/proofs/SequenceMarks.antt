@@ -75,8 +75,8 @@ module _ (p : Property) (few : length (conditions_of p) ≤ 64) (few_s : length 
         (λ u'. let is : key i c ≡ k = omega arith in
         subst (λ j. ForOperands (Marked (with_operands (entry p (k / 64)) (k % 64) met)) (entry p j) c) (sym (entry_of i c k l is)) (subst (λ b. ForOperands (Marked (with_operands (entry p (k / 64)) (k % 64) met)) (entry p (k / 64)) b) (sym (clock_of i c k l is)) new.done))
         (cases_lt k (key i c))),
-    (λ other closed in-seed i c l m.
-        let low = inv.3 other closed in-seed in
+    (λ other closed in_seed i c l m.
+        let low = inv.3 other closed in_seed in
         let told = (closed (k / 64) (k % 64) there (clock_small k) (low (k / 64) (k % 64) (clock_small k) here)).1 in
         ⊎_elim (λ was. low i c l was)
         (λ x. let same_c : c ≡ x.1 = omega (arith, x.2, x.3) in
@@ -107,7 +107,7 @@ module _ (p : Property) (few : length (conditions_of p) ≤ 64) (few_s : length 
 
 -- before the first key
 pub start : (p : Property) (seed : List Bool) → Clocks p seed → length seed ≡ 4096 → Inv p seed seed (64 * length (sequences_of p))
-start p seed clocks long = ((λ i c l m. m), clocks, (λ i c there l u m. let z : ⊥ = omega arith in absurd z), (λ other closed in-seed. in-seed), long)
+start p seed clocks long = ((λ i c l m. m), clocks, (λ i c there l u m. let z : ⊥ = omega arith in absurd z), (λ other closed in_seed. in_seed), long)
 
 -- by going down over all keys below k
 pub meets : (p : Property) → length (conditions_of p) ≤ 64 → length (sequences_of p) ≤ 64 → (seed : List Bool) (k : ℕ) → k ≤ 64 * length (sequences_of p)

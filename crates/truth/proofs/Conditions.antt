@@ -44,8 +44,8 @@ module _ {L : Type 0} (atoms : L → ℕ → Bool) (mirrored : L → L) where
       → ((j : ℕ) → flagged own j ≡ (ltb j (8 * n) && p)) → ((j : ℕ) → flagged other j ≡ (ltb j (8 * m) && q))
       → Like atom (named []) (letter_of own other) (means atoms mirrored (full t x))
   unfolding conditions
-  like_filled t x own other n m p q e f is its filled filled-other a =
-      (filled_tells own p n e filled a ∙ is ∙ falsity_top t x, filled_tells other q m f filled-other a ∙ its ∙ falsity_bottom t x)
+  like_filled t x own other n m p q e f is its filled filled_other a =
+      (filled_tells own p n e filled a ∙ is ∙ falsity_top t x, filled_tells other q m f filled_other a ∙ its ∙ falsity_bottom t x)
 
 satisfies_both : (l : Letter) (b d : Condition) → satisfies l (conjunction b d) ≡ (satisfies l b && satisfies l d)
 satisfies_both top b d = refl

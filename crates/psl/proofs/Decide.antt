@@ -99,8 +99,8 @@ mir_tick_past k w j h x =
 abbrev TickThen : Clock → (Word → Type 0) → Word → Type 0
 TickThen k S w = (j : ℕ) × (Place w j × (TickUnder k (front w (suc j)) × S (from w j)))
 
-tick-then? : (k : Clock) (S : Word → Type 0) → ((x : Word) → Dec (S x)) → (w : Word) → Dec (TickThen k S w)
-tick-then? k S d w =
+tick_then? : (k : Clock) (S : Word → Type 0) → ((x : Word) → Dec (S x)) → (w : Word) → Dec (TickThen k S w)
+tick_then? k S d w =
     let n = length w.letters in
     dec_some n (λ j. Place w j × (TickUnder k (front w (suc j)) × S (from w j)))
     (λ j. dec_and (place? (seen w j)) (dec_and (tick? k (front w (suc j))) (d (from w j))))
@@ -111,7 +111,7 @@ strong? k b w =
     dec_iff (
       (λ (j, t, h). (j, (holds_present (seen w j) b h, (t, subst⁻¹ (λ o. Holds o b) (first_of j w) h)))),
       (λ (j, (p, (t, h))). (j, t, subst (λ o. Holds o b) (first_of j w) h)),
-    ) (tick-then? k (λ x. Holds (seen x zero) b) (λ x. holds? (seen x zero) b) w)
+    ) (tick_then? k (λ x. Holds (seen x zero) b) (λ x. holds? (seen x zero) b) w)
 
 weak? : (k : Clock) (b : Condition) (w : Word) → Dec (SatisfiesUnder k (weak b) w)
 weak? k b w =
@@ -120,8 +120,8 @@ weak? k b w =
     (λ j. dec_imp (place? (seen w j)) (dec_imp (tick? k (front (mir w) (suc j))) (holds? (seen w j) b)))
     (λ j h s p t. subst⁻¹ (λ o. Holds o b) (seen_same w n j (omega arith) h) (s (place_below n j w h p) (mir_tick_past k w j h t)))
 
-weak-sequence? : (k : Clock) (r : Sequence) (w : Word) → Dec (SatisfiesUnder k (weak_sequence r) w)
-weak-sequence? k r w =
+weak_sequence? : (k : Clock) (r : Sequence) (w : Word) → Dec (SatisfiesUnder k (weak_sequence r) w)
+weak_sequence? k r w =
     elim (place? (seen w zero)) [
       | yes p ↦ dec_iff (weak_longest k r w p) (starts? k r (topped w))
       | no n ↦ yes (λ j p. absurd (n (place_first j w p)))
@@ -134,7 +134,7 @@ next? k S d w =
     let n = length w.letters in
     dec_iff ((λ (i, j, t, p, u, s). (i, (t, (j, (p, (u, s)))))), (λ (i, (t, (j, (p, (u, s))))). (i, j, t, p, u, s)))
     (dec_some n (λ i. TickUnder k (front w (suc i)) × TickThen k S (from w (suc i)))
-    (λ i. dec_and (tick? k (front w (suc i))) (tick-then? k S d (from w (suc i))))
+    (λ i. dec_and (tick? k (front w (suc i))) (tick_then? k S d (from w (suc i))))
     (λ i h (t, s). (tick_past k w.letters w.tail i h t, subst (TickThen k S) (from_same w (suc n) (suc i) (omega arith) (omega arith)) s)))
 
 until? : (k : Clock) (F G : Word → Type 0) → ((x : Word) → Dec (F x)) → ((x : Word) → Dec (G x)) → (w : Word)
@@ -168,7 +168,7 @@ pub decide : (k : Clock) (f : Formula) (w : Word) → Dec (SatisfiesUnder k f w)
 decide k (strong b) w = strong? k b w
 decide k (weak b) w = weak? k b w
 decide k (strong_sequence r) w = starts? k r w
-decide k (weak_sequence r) w = weak-sequence? k r w
+decide k (weak_sequence r) w = weak_sequence? k r w
 decide k (negated f) w = dec_not (decide k f (mir w))
 decide k (conjoined f g) w = dec_and (decide k f w) (decide k g w)
 decide k (next f) w = next? k (SatisfiesUnder k f) (decide k f) w

@@ -1,4 +1,4 @@
--- Where live and live-start tell whether some non-empty run of tops completes a match: under every clock, and free of one in ticked sequences.
+-- Where live and live_start tell whether some non-empty run of tops completes a match: under every clock, and free of one in ticked sequences.
 use Rattle.std.proofs.Common.{◌≡◌, ℕ, zero, suc, ◌≤◌, ◌&&◌, T, ◌⊎◌, ◌↔◌, List, [], ◌∷◌, ◌++◌, sym, refl, ap, subst, ap₂, inl, inr, arith}
 use Rattle.psl.specs.Syntax.{Condition, Sequence, condition, concat, fusion, either, both, empty, star, sequence_at}
 use Rattle.psl.specs.Letter.{Letter, top}

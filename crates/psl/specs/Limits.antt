@@ -39,5 +39,5 @@ pub record HypothesesNeeded : Type 0 where
   -- free of a clock, an abort at the first letter may hold though its operand fails on endless tops
   pub unclocked_abort : UnclockedSatisfies (abort (negated (next anywhere)) truth) (with_tail (top ∷ []) end)
       × (UnclockedSatisfies (negated (next anywhere)) (with_tops (front (with_tail (top ∷ []) end) zero)) → ⊥)
-  -- free of a clock, live-start may be true of a sequence that is not ticked though no run of tops matches
+  -- free of a clock, live_start may be true of a sequence that is not ticked though no run of tops matches
   pub unticked_tops : T (extends free one_and_two []) × ((n : ℕ) → UnclockedMatches one_and_two (run_of_tops (suc n)) → ⊥)

@@ -20,27 +20,27 @@ leaf_number free p = 0
 leaf_number (on c) waiting = 0
 leaf_number (on c) over = 1
 
--- leaf-final by the number
+-- leaf_final by the number
 abbrev pub numbered_leaf_final : Clock → ℕ → Bool
 numbered_leaf_final free k = true
 numbered_leaf_final (on c) k = k == 1
 
--- leaf-live by the number
+-- leaf_live by the number
 abbrev pub numbered_leaf_live : Clock → ℕ → Bool
 numbered_leaf_live free k = false
 numbered_leaf_live (on c) k = k == 0
 
--- leaf-last by the number
+-- leaf_last by the number
 abbrev pub numbered_leaf_last : Clock → Condition → Letter → ℕ → Bool
 numbered_leaf_last free b l k = false
 numbered_leaf_last (on c) b l k = k == 0 && (satisfies l c && satisfies l b)
 
--- leaf-init by the number
+-- leaf_init by the number
 abbrev pub numbered_leaf_init : Clock → Condition → Letter → ℕ → Bool
 numbered_leaf_init free b l q = satisfies l b
 numbered_leaf_init (on c) b l q = if (q == 0) (satisfies l (negation c)) (satisfies l c && satisfies l b)
 
--- leaf-step by the numbers
+-- leaf_step by the numbers
 abbrev pub numbered_leaf_step : Clock → Condition → Letter → ℕ → ℕ → Bool
 numbered_leaf_step free b l p q = false
 numbered_leaf_step (on c) b l p q = p == 0 && numbered_leaf_init (on c) b l q

@@ -2,7 +2,8 @@
 """Brings the names of definitions and lemmas to today's spelling, once, after the kit's own port script.
 
 Words are in snake case, types and facts in camel case; a dash stays only beside a symbol. Names of goals, which the
-prover makes, and names from src/ are left alone, as are comments and strings. Run at the top of the checkout."""
+prover makes, and names from src/ are left alone, as are strings; in comments and pages only names in backticks are
+turned. Run at the top of the checkout."""
 import collections
 import glob
 import re

@@ -30,10 +30,7 @@ module _ (own other : List ℕ) (k : Clock) (r : Sequence) (targets : ℕ → Bo
   -- before the first letter nothing is found
   pub found_none : (lo : ℕ) (p : Places) → ((x : ℕ) → member p x ≡ false) → Found own other k r targets lo lo p
   found_none lo p h x =
-      h x ∙ sym (outside own other k r lo lo (omega arith) (some_below (lo - x) (hits x)) x (side (cases_lt x lo)))
-    where
-      side : (x < lo) ⊎ (lo ≤ x) → (x < lo) ⊎ (lo ≤ x)
-      side s = s
+      h x ∙ sym (outside own other k r lo lo (omega arith) (some_below (lo - x) (hits x)) x (cases_lt x lo))
 
   module _ (lo i : ℕ) (order : lo ≤ i) where
     -- after a letter those are found too that end at a target there

@@ -89,10 +89,7 @@ module _ (own other : List ℕ) where
           ap₂ (λ (c f : Bool). (c && f) && b) d e
 
     pub followed_none : (lo : ℕ) (S : List Places) → ((q : State k r) (x : ℕ) → starts_in S whole k r x q ≡ false) → Followed lo lo S
-    followed_none lo S h q x = h q x ∙ sym (outside lo lo (omega arith) (after x (lo - x) q) x (side (cases_lt x lo)))
-      where
-        side : (x < lo) ⊎ (lo ≤ x) → (x < lo) ⊎ (lo ≤ x)
-        side s = s
+    followed_none lo S h q x = h q x ∙ sym (outside lo lo (omega arith) (after x (lo - x) q) x (cases_lt x lo))
 
     module _ (lo i : ℕ) (order : lo ≤ i) where
       pub followed_more : (S S' : List Places) (here : ℕ → Bool) → ((x : ℕ) → here x ≡ eqb x i) → Followed lo i S

@@ -1,12 +1,10 @@
 -- The bits of a number, of a power of two, of the lowest bits, and of what is made bit by bit.
-use Rattle.std.proofs.Common.{◌≡◌, ℕ, zero, suc, ◌+◌, ◌-◌, ◌*◌, ◌/◌, ◌%◌, ◌^◌, ◌<◌, ◌≤◌, Bool, true, false, not, ◌&&◌, ◌||◌, eqb, ltb, ◌⊎◌, sym, refl, ap, ◌∙◌, inl, inr, zero-mul, arith}
-use mathlib.Core.Bool.{and-true}
-use native.Mathlib.Nat.{div-eq_of_lt, zero-div, zero-mod, pow-le-pow_right}
-use mir.Val.{bool_byte}
+use Rattle.std.proofs.Common.{◌≡◌, ℕ, zero, suc, ◌+◌, ◌-◌, ◌*◌, ◌/◌, ◌%◌, ◌^◌, ◌<◌, ◌≤◌, Bool, true, false, not, ◌&&◌, ◌||◌, eqb, ltb, ◌⊎◌, sym, refl, ap, ◌∙◌, inl, inr, arith}
+use native.Mathlib.Nat.{div-eq_of_lt, zero-div, pow-le-pow_right}
 use lib.Pow.{ones_split}
 use lib.Bits.{bit_and, bit_or, bit_xor, and_shr, or_shr, xor_shr, and_mod, or_mod, xor_mod}
-use Rattle.std.proofs.lemmas.Nat.{shl-shr, shr_high, one_shl, pow_pos, pow-add, pow_below}
-use Rattle.std.proofs.lemmas.Bool.{eq-eqb, ne_eqb, lt-ltb, le-ltb, and_right, cases_order, cases_lt}
+use Rattle.std.proofs.lemmas.Nat.{shl-shr, shr_high, pow_pos, pow-add, pow_below}
+use Rattle.std.proofs.lemmas.Bool.{eq-eqb, ne_eqb, lt-ltb, le-ltb, cases_order, cases_lt}
 use Rattle.bits.specs.Words.{bit}
 
 -- what is made bit by bit, on two bits
@@ -74,6 +72,13 @@ bit_pow m n = go (cases_order n m)
         let gone : 2 ^ m / 2 ^ n ≡ 0 = div-eq_of_lt (pow_below m n h) in
         ap (λ (z : ℕ). eqb (z % 2) 1) gone ∙ sym (ne_eqb n m (λ e. omega arith))
 
+-- a number below 2 ^ k has no bit from k on
+pub bit_high : (x k n : ℕ) → x < 2 ^ k → k ≤ n → bit x n ≡ false
+bit_high x k n h le =
+    let two : 0 < 2 = omega arith in
+    let big : x < 2 ^ n = omega (arith, pow-le-pow_right {n = 2} two {i = k} {j = n} le) in
+    ap (λ (z : ℕ). eqb (z % 2) 1) (div-eq_of_lt big)
+
 -- the lowest m bits are set
 pub bit_lowest : (m n : ℕ) → bit (2 ^ m - 1) n ≡ ltb n m
 bit_lowest m n = go (cases_lt n m)
@@ -91,11 +96,3 @@ bit_lowest m n = go (cases_lt n m)
         let small : 2 ^ m - 1 < 2 ^ n = omega (arith, pow_pos m, pow-le-pow_right {n = 2} two {i = m} {j = n} h) in
         let gone : (2 ^ m - 1) / 2 ^ n ≡ 0 = div-eq_of_lt small in
         ap (λ (z : ℕ). eqb (z % 2) 1) gone ∙ sym (le-ltb n m h)
-
--- a bit that is set as the flag says, of a number of w bits
-pub bit_mark : (flag : Bool) (b m w : ℕ) → b ≡ bool_byte flag → m < w → (n : ℕ) → bit (b * 2 ^ m % 2 ^ w) n ≡ (eqb n m && flag)
-bit_mark flag b m w is h n = ap (λ (z : ℕ). bit (z * 2 ^ m % 2 ^ w) n) is ∙ go flag
-  where
-    go : (flag : Bool) → bit (bool_byte flag * 2 ^ m % 2 ^ w) n ≡ (eqb n m && flag)
-    go true = ap (λ (z : ℕ). bit z n) (one_shl m w h) ∙ bit_pow m n ∙ sym (and-true (eqb n m))
-    go false = ap (λ (z : ℕ). bit (z % 2 ^ w) n) (zero-mul (2 ^ m)) ∙ ap (λ (z : ℕ). bit z n) (zero-mod (2 ^ w)) ∙ bit_zero n ∙ sym (and_right (eqb n m) false refl)

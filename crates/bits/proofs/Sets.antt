@@ -1,16 +1,15 @@
 -- Sets in words of any width: one word set, all words made alike, nothing past the words.
-use Rattle.std.proofs.Common.{◌≡◌, ℕ, zero, suc, ◌+◌, ◌*◌, ◌/◌, ◌%◌, ◌^◌, ◌<◌, ◌≤◌, Bool, false, ◌&&◌, eqb, ltb, ◌⊎◌, List, length, get_or, set, replicate, sym, refl, ap, ◌∙◌, ap₂, inl, inr, le_trans, arith, get_or-set_other, get_or-set_same, below_more}
-use lib.Bits.{bit_and, and_mask}
+use Rattle.std.proofs.Common.{◌≡◌, ℕ, zero, suc, ◌+◌, ◌*◌, ◌/◌, ◌%◌, ◌<◌, ◌≤◌, Bool, false, ◌&&◌, eqb, ltb, ◌⊎◌, List, length, get_or, set, replicate, sym, refl, ap, ◌∙◌, ap₂, inl, inr, le_trans, arith, get_or-set_other, get_or-set_same, below_more}
 use Rattle.std.proofs.lemmas.Nat.{div-add-mod', div_below, le-div}
 use Rattle.std.proofs.lemmas.Bool.{eq-eqb, ne_eqb, lt-ltb, le-ltb, cases_eq, cases_lt}
 use Rattle.std.proofs.lemmas.List.{get_or_past}
-use Rattle.bits.specs.Words.{bit, in_words}
+use Rattle.bits.specs.Words.{bit, in_words, EachMadeBy}
 use Rattle.bits.proofs.Bitwise.{bit_zero}
 
--- below n each word of zs is made of those of xs and ys, and from n on it is that of xs
-abbrev pub Made : (ℕ → ℕ → ℕ) → ℕ → List ℕ → List ℕ → List ℕ → Type 0
-Made f n xs ys zs =
-    ((k : ℕ) → k < n → get_or zs k 0 ≡ f (get_or xs k 0) (get_or ys k 0)) × ((k : ℕ) → n ≤ k → get_or zs k 0 ≡ get_or xs k 0)
+-- below n each word of zs is what R allows to be made of those of xs and ys, and from n on it is that of xs
+abbrev pub MadeBy : (ℕ → ℕ → ℕ → Type 0) → ℕ → List ℕ → List ℕ → List ℕ → Type 0
+MadeBy R n xs ys zs =
+    ((k : ℕ) → k < n → R (get_or xs k 0) (get_or ys k 0) (get_or zs k 0)) × ((k : ℕ) → n ≤ k → get_or zs k 0 ≡ get_or xs k 0)
 
 -- each word below n is made by its number
 abbrev pub Written : (ℕ → ℕ) → ℕ → List ℕ → Type 0
@@ -64,16 +63,16 @@ module _ (w : ℕ) where
 
   -- words made word by word are made bit by bit, if nothing is made of nothing
   pub in_each : (f : ℕ → ℕ → ℕ) (op : Bool → Bool → Bool) → ((a b n : ℕ) → bit (f a b) n ≡ op (bit a n) (bit b n)) → op false false ≡ false
-      → (xs ys zs : List ℕ) (n : ℕ) → length xs ≤ n → length ys ≤ n → Made f n xs ys zs
+      → (xs ys zs : List ℕ) → length xs ≤ 9 → length ys ≤ 9 → length zs ≤ 9 → EachMadeBy (λ x y z. z ≡ f x y) xs ys zs
       → (j : ℕ) → in_words w zs j ≡ op (in_words w xs j) (in_words w ys j)
   unfolding in_words
-  in_each f op bits none xs ys zs n hx hy made j = go (cases_lt (j / w) n)
+  in_each f op bits none xs ys zs hx hy hz made j = go (cases_lt (j / w) 9)
     where
-      go : (j / w < n) ⊎ (n ≤ j / w) → bit (get_or zs (j / w) 0) (j % w) ≡ op (bit (get_or xs (j / w) 0) (j % w)) (bit (get_or ys (j / w) 0) (j % w))
-      go (inl h) = ap (λ (z : ℕ). bit z (j % w)) (made.0 (j / w) h) ∙ bits (get_or xs (j / w) 0) (get_or ys (j / w) 0) (j % w)
+      go : (j / w < 9) ⊎ (9 ≤ j / w) → bit (get_or zs (j / w) 0) (j % w) ≡ op (bit (get_or xs (j / w) 0) (j % w)) (bit (get_or ys (j / w) 0) (j % w))
+      go (inl h) = ap (λ (z : ℕ). bit z (j % w)) (made (j / w) h) ∙ bits (get_or xs (j / w) 0) (get_or ys (j / w) 0) (j % w)
       go (inr h) =
-          let x = past xs (j / w) (j % w) (omega arith) in
-          ap (λ (z : ℕ). bit z (j % w)) (made.1 (j / w) h) ∙ x ∙ sym none ∙ ap₂ op (sym x) (sym (past ys (j / w) (j % w) (omega arith)))
+          past zs (j / w) (j % w) (omega arith) ∙ sym none
+          ∙ ap₂ op (sym (past xs (j / w) (j % w) (omega arith))) (sym (past ys (j / w) (j % w) (omega arith)))
 
   -- n words, each made by its number
   pub in_written : (f : ℕ → ℕ) (ws : List ℕ) (n : ℕ) → 0 < w → length ws ≤ n → Written f n ws
@@ -90,7 +89,7 @@ module _ (w : ℕ) where
   unfolding in_words
   in_zeros n j = ap (λ (z : ℕ). bit z (j % w)) (zeros n (j / w)) ∙ bit_zero (j % w)
 
-  -- the bit of n, as a shift and a mask read it
-  pub in_read : (ws : List ℕ) (n : ℕ) → eqb (bit_and (get_or ws (n / w) 0 / 2 ^ (n % w)) 1) 1 ≡ in_words w ws n
+  -- the bit of n, read from its word
+  pub in_read : (ws : List ℕ) (n v : ℕ) → v ≡ get_or ws (n / w) 0 → bit v (n % w) ≡ in_words w ws n
   unfolding in_words
-  in_read ws n = ap (λ z. eqb z 1) (and_mask (get_or ws (n / w) 0 / 2 ^ (n % w)) 1)
+  in_read ws n v is = ap (λ (z : ℕ). bit z (n % w)) is

@@ -3,24 +3,13 @@ ghost use Rattle.std.specs.Prelude.{◌≡◌, ℕ, ◌*◌, ◌/◌, ◌<◌, �
 ghost use Rattle.bits.specs.Flags.{flagged};
 ghost use Rattle.bits.specs.Words.{bit};
 
+use crate::word;
+
 // Flag n, which is not set past the bytes.
 pub fn told(row: &[u8], n: usize) -> bool
     ensures value { result ≡ flagged row.now n }
 {
-    n / 8 < row.len() && (row[n / 8] >> (n % 8)) & 1 == 1
-}
-
-// The byte with bit n made what `flag` says.
-fn with_bit(byte: u8, n: usize, flag: bool) -> u8
-    requires { n < 8 }
-    ensures items { (k : ℕ) → bit result k ≡ (if nat_eq k n then flag else bit byte k) }
-{
-    let mark = 1 << n;
-    if flag {
-        byte | mark
-    } else {
-        byte ^ (byte & mark)
-    }
+    n / 8 < row.len() && word::has(u64::from(row[n / 8]), n % 8)
 }
 
 // Makes flag n what `flag` says; a flag past the bytes changes nothing.
@@ -30,7 +19,7 @@ pub fn put(row: &mut [u8], n: usize, flag: bool)
     ensures len { length row.new ≡ length row.old }
 {
     if n / 8 < row.len() {
-        row[n / 8] = with_bit(row[n / 8], n % 8, flag);
+        row[n / 8] = word::with(u64::from(row[n / 8]), n % 8, flag) as u8;
     }
 }
 
@@ -46,8 +35,5 @@ pub fn fill(row: &mut [u8], flag: bool)
     ensures items { (j : ℕ) → flagged row.new j ≡ (nat_lt j (8 * length row.old) && flag) }
     ensures len { length row.new ≡ length row.old }
 {
-    let byte = uniform(flag);
-    for q in 0..row.len() {
-        row[q] = byte;
-    }
+    row.fill(uniform(flag));
 }

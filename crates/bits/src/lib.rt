@@ -3,3 +3,4 @@
 
 pub mod flags;
 pub mod places;
+pub mod word;

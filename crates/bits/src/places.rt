@@ -1,6 +1,9 @@
 // Sets of places.
-ghost use Rattle.std.specs.Prelude.{◌≡◌, ℕ, ◌-◌, ◌^◌, ◌<◌, ◌≤◌, min, false, not, ◌&&◌, ◌||◌, ◌==◌, nat_le, nat_lt};
+ghost use Rattle.std.specs.Prelude.{◌≡◌, ℕ, ◌-◌, ◌^◌, ◌<◌, ◌≤◌, min, length, false, not, ◌&&◌, ◌||◌, ◌==◌, nat_le, nat_lt};
 ghost use Rattle.bits.specs.Member.{member, count_below};
+ghost use Rattle.bits.specs.Words.{EachMadeBy};
+
+use crate::word;
 
 // The number of places of a set: 512 letters, and the end behind them, fit.
 pub const PLACES: usize = 576;
@@ -23,6 +26,7 @@ fn below(n: usize) -> Places
     ensures items { (k : ℕ) → member result k ≡ (nat_lt k 576 && nat_lt k n) }
 {
     let mut words = [0; 9];
+    // Stays: nothing is known of the words after `iter_mut().enumerate()`, so the proof doesn't close over it.
     for i in 0..9 {
         words[i] = lowest(n.saturating_sub(64 * i));
     }
@@ -50,7 +54,7 @@ impl Places {
     pub fn contains(&self, k: usize) -> bool
         ensures value { result ≡ member self.now k }
     {
-        k < PLACES && (self.words[k / 64] >> (k % 64)) & 1 == 1
+        k < PLACES && word::has(self.words[k / 64], k % 64)
     }
 
     // Adds the place if the flag says so; a place from 576 on changes nothing.
@@ -58,8 +62,19 @@ impl Places {
         ensures items { k < 576 → (j : ℕ) → member self.new j ≡ ((j == k && flag) || member self.old j) }
         ensures same { 576 ≤ k → self.new ≡ self.old }
     {
-        if k < PLACES {
-            self.words[k / 64] |= u64::from(flag) << (k % 64);
+        if flag && k < PLACES {
+            self.words[k / 64] = word::with(self.words[k / 64], k % 64, true);
+        }
+    }
+
+    // Makes each word what `f` makes of it and that of the other set.
+    fn combine<F: Fn(u64, u64) -> u64>(&mut self, other: &Places, f: F)
+        requires { F.IsAlwaysCallable f }
+        ensures made { EachMadeBy (F.post f) self.old.words other.now.words self.new.words }
+        ensures len { length self.new.words ≡ 9 }
+    {
+        for (i, word) in other.words.iter().enumerate() {
+            self.words[i] = f(self.words[i], *word);
         }
     }
 
@@ -67,9 +82,7 @@ impl Places {
     pub fn join(&mut self, other: &Places)
         ensures items { (j : ℕ) → member self.new j ≡ (member self.old j || member other.now j) }
     {
-        for i in 0..9 {
-            self.words[i] |= other.words[i];
-        }
+        self.combine(other, |own, more| own | more);
     }
 
     // Adds the members of the other set if the flag says so.
@@ -85,19 +98,14 @@ impl Places {
     pub fn meet(&mut self, other: &Places)
         ensures items { (j : ℕ) → member self.new j ≡ (member self.old j && member other.now j) }
     {
-        for i in 0..9 {
-            self.words[i] &= other.words[i];
-        }
+        self.combine(other, |own, kept| own & kept);
     }
 
     // Takes out the members of the other set.
     pub fn remove(&mut self, other: &Places)
         ensures items { (j : ℕ) → member self.new j ≡ (member self.old j && not (member other.now j)) }
     {
-        for i in 0..9 {
-            let word = self.words[i];
-            self.words[i] = word ^ (word & other.words[i]);
-        }
+        self.combine(other, |own, less| own ^ (own & less));
     }
 
     // Leaves nothing unless the flag says so.

@@ -1,4 +1,4 @@
-use Rattle.std.proofs.Common.{◌&&◌, refl, arith}
+use Rattle.std.proofs.Common.{◌&&◌, refl, rules, arith}
 use lib.Bits.{bit_and}
 use Rattle.bits.proofs.Bitwise.{bit-bit_and}
 use Rattle.bits.proofs.Sets.{in_each}
@@ -6,7 +6,5 @@ use Rattle.bits.proofs.places.Places.meet.Goals as goal
 
 pub returns : goal.returns
 returns c = record {
-  items =
-      in_each 64 bit_and ◌&&◌ bit-bit_and refl c.args.self.now.words c.args.other.now.words c.loop-i.self.words c.loop-i.i
-      (omega arith) (omega arith) c.loop-i.invariant;
+  items = in_each 64 bit_and ◌&&◌ bit-bit_and refl _ _ _ (omega arith) (omega arith) (omega (arith, c.combine.ensures.len)) (λ k h. let made = c.combine.ensures.made k h in search rules);
 }

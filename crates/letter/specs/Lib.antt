@@ -1,4 +1,4 @@
-pub mod Bit
+pub mod Put
 pub mod Meaning
 pub mod Values
 pub mod Full

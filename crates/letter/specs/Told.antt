@@ -1,11 +1,11 @@
 -- A number is told by its bits, a letter by its meaning.
-use Rattle.std.specs.Prelude.{◌≡◌, ℕ, zero, suc, ◌+◌, ◌/◌, ◌%◌, ◌^◌, ◌<◌, ◌≤◌, Bool, true, false, Decides, nat_eq}
+use Rattle.std.specs.Prelude.{◌≡◌, ℕ, zero, suc, ◌+◌, ◌/◌, ◌%◌, ◌^◌, ◌<◌, Bool, true, false, Decides, nat_eq}
 use Rattle.std.proofs.Common.{sym, ap, ◌∙◌, arith, div-one}
-use Rattle.std.proofs.Math.Nat.{two-pow-succ, div-eq_of_lt, pow-le-pow_right}
+use Rattle.std.proofs.Math.Nat.{two-pow-succ}
 use Rattle.std.proofs.lemmas.Nat.{shr-shr}
 use Rattle.std.proofs.lemmas.Bool.Decides.{nat_tests}
 use Rattle.psl.specs.Letter.{Letter, top, bottom, ordinary}
-use Rattle.letter.specs.Bit.{bit}
+use Rattle.bits.specs.Words.{bit}
 use Rattle.letter.specs.Meaning.{meaning}
 
 bit_half : (x n : ℕ) → bit (x / 2) n ≡ bit x (1 + n)
@@ -29,14 +29,6 @@ told_below (suc k) x y a b same =
 -- two numbers with the same bits are equal
 pub told : (x y : ℕ) → ((n : ℕ) → bit x n ≡ bit y n) → x ≡ y
 told x y same = told_below (x + y) x y (omega (arith, below_pow (x + y))) (omega (arith, below_pow (x + y))) same
-
--- a number below 2 ^ k has no bit from k on
-pub high : (x k n : ℕ) → x < 2 ^ k → k ≤ n → bit x n ≡ false
-high x k n h le =
-    let two : 0 < 2 = omega arith in
-    let big : x < 2 ^ n = omega (arith, pow-le-pow_right {n = 2} two {i = k} {j = n} le) in
-    let none : x / 2 ^ n ≡ 0 = div-eq_of_lt big in
-    rw none
 
 -- the atoms that a letter satisfies, and those that its mirror satisfies
 abbrev own : Letter → ℕ → Bool

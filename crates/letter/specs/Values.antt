@@ -1,6 +1,6 @@
 -- The values of a wire in a simulation.
 use Rattle.std.specs.Prelude.{ℕ, Bool, true, false}
-use Rattle.letter.specs.Bit.{bit}
+use Rattle.bits.specs.Words.{bit}
 use Rattle.letter.specs.declared.value.Value.{Value}
 use Rattle.letter.specs.declared.value.Value.TheVariants.{Zero, One, X, Y}
 

@@ -1,7 +1,8 @@
 -- A wire's value is told by whether it satisfies the atom, and whether its mirror does.
 use Rattle.std.specs.Prelude.{◌≡◌, ℕ, Bool, true, false, cond, ◌&&◌, ◌==◌, nat_lt, refl}
 use Rattle.std.proofs.Common.{ap, ap₂, ◌∙◌}
-use Rattle.letter.specs.Bit.{bit, put_in}
+use Rattle.bits.specs.Words.{bit}
+use Rattle.letter.specs.Put.{put_in}
 use Rattle.letter.specs.Values.{satisfied, swapped, value_by, value_at}
 use Rattle.letter.specs.declared.value.Value.{Value}
 use Rattle.letter.specs.declared.value.Value.TheVariants.{Zero, One, X, Y}

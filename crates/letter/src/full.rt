@@ -1,33 +1,58 @@
 // Full letters over any kind: top, bottom or ordinary.
 ghost use Rattle.std.specs.Prelude.{◌≡◌};
-ghost use Rattle.letter.specs.Full.{held_in, same_full};
+ghost use Rattle.psl.specs.Letter.{mirror, satisfies};
+ghost use Rattle.psl.specs.Syntax.{atom as atom_of};
+ghost use Rattle.letter.specs.Full.{full, means};
 
 use crate::kind::Kind;
 
-#[derive(Clone, Copy)]
+// Top satisfies every condition, bottom none.
+#[derive(Clone, Copy, Debug, PartialEq, Eq)]
+pub enum Full<L> {
+    Top,
+    Bottom,
+    Ordinary(L),
+}
+
+// What kind of full letter it is. Stays: a letter goes into a record as a tag and an ordinary letter, by a rule of the project.
+#[derive(Clone, Copy, Debug, PartialEq, Eq)]
 pub enum Tag {
     Top,
     Bottom,
     Ordinary,
 }
 
-// A full letter: the ordinary letter counts only under the tag Ordinary.
-#[derive(Clone, Copy)]
-pub struct Tagged<L> {
-    pub tag: Tag,
-    pub letter: L,
-}
-
-impl<K: Kind> Tagged<K> {
-    // Whether two full letters are the same: two tops are, whatever ordinary letters stand beside them.
-    pub fn same(&self, other: &Tagged<K>) -> bool
-        ensures value { result ≡ same_full K.Kind.equals (held_in self.now) (held_in other.now) }
+impl<K: Kind> Full<K> {
+    // The letter of a tag and an ordinary letter, which counts only under the tag Ordinary.
+    pub fn of(tag: Tag, letter: K) -> Full<K>
+        ensures value { result ≡ full tag letter }
     {
-        match (self.tag, other.tag) {
-            (Tag::Top, Tag::Top) => true,
-            (Tag::Bottom, Tag::Bottom) => true,
-            (Tag::Ordinary, Tag::Ordinary) => self.letter.same(&other.letter),
-            _ => false,
+        match tag {
+            Tag::Top => Full::Top,
+            Tag::Bottom => Full::Bottom,
+            Tag::Ordinary => Full::Ordinary(letter),
+        }
+    }
+
+    // Whether the letter satisfies the atom; no ordinary letter satisfies one from 32 on.
+    pub fn satisfies(&self, atom: u16) -> bool
+        ensures value { result ≡ satisfies (means K.Kind.atoms K.Kind.mirrored self.now) (atom_of atom) }
+    {
+        match self {
+            Full::Top => true,
+            Full::Bottom => false,
+            Full::Ordinary(letter) => atom < 32 && letter.satisfies(atom as u8),
+        }
+    }
+
+    // The mirror swaps top and bottom.
+    pub fn mirror(&self) -> Full<K>
+        ensures value { means K.Kind.atoms K.Kind.mirrored result ≡ mirror (means K.Kind.atoms K.Kind.mirrored self.now) }
+    {
+        match self {
+            Full::Top => Full::Bottom,
+            Full::Bottom => Full::Top,
+            Full::Ordinary(letter) => Full::Ordinary(letter.mirror()),
         }
     }
 }

@@ -1,7 +1,7 @@
 // Letters: the interface of letter kinds, wire letters, simulator letters, and full letters over any kind.
 #![tactic(auto)]
 
-mod bits;
+mod atoms;
 pub mod full;
 pub mod kind;
 pub mod simulated;

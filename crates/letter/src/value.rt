@@ -3,7 +3,7 @@ ghost use Rattle.std.specs.Prelude.{◌≡◌};
 ghost use Rattle.letter.specs.Values.{satisfied, swapped, value_by};
 
 // A wire at 1 or y satisfies its atom. In the mirror x and y trade places, and 0 and 1 stay.
-#[derive(Clone, Copy)]
+#[derive(Clone, Copy, Debug, PartialEq, Eq)]
 pub enum Value {
     Zero,
     One,
@@ -16,12 +16,7 @@ impl Value {
     pub(crate) fn satisfies(self) -> bool
         ensures value { result ≡ satisfied self }
     {
-        match self {
-            Value::Zero => false,
-            Value::One => true,
-            Value::X => false,
-            Value::Y => true,
-        }
+        matches!(self, Value::One | Value::Y)
     }
 
     pub(crate) fn mirror(self) -> Value

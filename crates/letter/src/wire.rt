@@ -1,38 +1,40 @@
 // Wire letters: sets of satisfied atoms.
-ghost use Rattle.std.specs.Prelude.{◌≡◌, ℕ, ◌^◌, ◌<◌, true, false, ◌==◌};
-ghost use Rattle.letter.specs.Bit.{bit, put_in};
+ghost use Rattle.std.specs.Prelude.{◌≡◌, ℕ, true, false};
+ghost use Rattle.bits.specs.Words.{bit};
+ghost use Rattle.letter.specs.Put.{put_in};
 
-use crate::bits;
+use crate::atoms::Atoms;
 use crate::kind::Kind;
 
-// A set of satisfied atoms, as the bits of a number; its own mirror.
-#[derive(Clone, Copy)]
+// A set of satisfied atoms; its own mirror.
+#[derive(Clone, Copy, Debug, PartialEq, Eq)]
 pub struct Wire {
-    bits: u32,
-    ghost short: { bits < 2 ^ 32 },
+    atoms: Atoms,
 }
 
 impl Wire {
     // The letter that satisfies no atom.
     pub fn empty() -> Wire
-        ensures items { (n : ℕ) → bit result.bits n ≡ false }
+        ensures items { (n : ℕ) → bit result.atoms.bits n ≡ false }
     {
-        Wire { bits: 0 }
+        Wire::of(0)
     }
 
     // The letter that satisfies atom n where bit n is 1.
     pub fn of(bits: u32) -> Wire
-        ensures items { (n : ℕ) → bit result.bits n ≡ bit bits n }
+        ensures items { (n : ℕ) → bit result.atoms.bits n ≡ bit bits n }
     {
-        Wire { bits }
+        Wire {
+            atoms: Atoms::of(bits),
+        }
     }
 
     // The letter that satisfies this atom too; there is none from 32 on.
     pub fn with(self, atom: u8) -> Wire
-        ensures items { (n : ℕ) → bit result.bits n ≡ put_in (bit self.bits) atom true n }
+        ensures items { (n : ℕ) → bit result.atoms.bits n ≡ put_in (bit self.atoms.bits) atom true n }
     {
         Wire {
-            bits: bits::put(self.bits, atom, true),
+            atoms: self.atoms.with(atom, true),
         }
     }
 }
@@ -42,13 +44,11 @@ impl Kind for Wire {
 
     const ATOMS: u8 = 32;
 
-    ghost number = { 32 };
+    ghost ATOMS = { 32 };
 
-    ghost atoms = { λ x. bit x.bits };
+    ghost atoms = { λ x. bit x.atoms.bits };
 
     ghost mirrored = { λ x. x };
-
-    ghost equals = { λ x y. (x.bits == y.bits) };
 
     ghost few = { wire_few };
 
@@ -60,19 +60,11 @@ impl Kind for Wire {
 
     ghost decided = { wire_decided };
 
-    fn number_of_atoms() -> u8 {
-        Self::ATOMS
-    }
-
     fn satisfies(&self, atom: u8) -> bool {
-        bits::has(self.bits, atom)
+        self.atoms.has(atom)
     }
 
     fn mirror(&self) -> Wire {
         *self
-    }
-
-    fn same(&self, other: &Wire) -> bool {
-        self.bits == other.bits
     }
 }

@@ -1,11 +1,10 @@
 use Rattle.std.proofs.Common.{refl}
-use Rattle.letter.specs.Paths.{simulated_path}
-use Rattle.letter.specs.Bit.{bit}
+use Rattle.bits.specs.Words.{bit}
 use Rattle.letter.specs.ValuesLemmas.{swap_told}
 use Rattle.letter.proofs.simulated.SimulatedKind.mirror.Goals as goal
 
 pub returns : goal.returns
 returns c = record {
-  value = simulated_path _ _ refl refl;
-  items = λ n. swap_told (bit c.args.self.now.own n) (bit c.args.self.now.other n);
+  value = refl;
+  items = λ n. swap_told (bit c.args.self.now.own.bits n) (bit c.args.self.now.other.bits n);
 }

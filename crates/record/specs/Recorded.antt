@@ -2,8 +2,7 @@
 use Rattle.std.specs.Prelude.{◌≡◌, ℕ, Bool, cond, List, [], ◌∷◌, ◌++◌, length, Some, Ok, Err, Result, nat_lt}
 use Rattle.std.specs.List.{slice_get}
 use Rattle.answer.specs.Questions.{◌otherwise◌, Call}
-use Rattle.letter.specs.declared.full.Tagged.{Tagged}
-use Rattle.letter.specs.Full.{Full, held_in}
+use Rattle.letter.specs.declared.full.Full.{Full}
 use Rattle.record.specs.declared.refusal.Refusal.{Refusal}
 use Rattle.record.specs.declared.refusal.Refusal.TheVariants.{DoesNotFit, NoPlace}
 
@@ -21,10 +20,10 @@ abbrev pub with_if_fits : {X : Type 0} → Recorded X → X → Recorded X
 with_if_fits r x = cond (r.fits r.letters x) (with_letter r x) r
 
 -- Reading a place: is it below the count? Then the answer is the letter there.
-abbrev pub Reads : {L : Type 0} → ℕ → Recorded (Full L) → Result (Tagged L) Refusal → Recorded (Full L) → Type 0
+abbrev pub Reads : {L : Type 0} → ℕ → Recorded (Full L) → Result (Full L) Refusal → Recorded (Full L) → Type 0
 Reads place before r after =
     Call ((nat_lt place (length before.letters) otherwise NoPlace) ∷ [])
-    (λ row now. (slice_get before.letters place ≡ Some (held_in row)) × (now ≡ before)) before r after
+    (λ letter now. (slice_get before.letters place ≡ Some letter) × (now ≡ before)) before r after
 
 -- Adding a letter: does it fit? Then it stands at the end.
 abbrev pub Adds : {X A : Type 0} → X → Recorded X → Result A Refusal → Recorded X → Type 0

@@ -4,5 +4,4 @@
 pub mod flat;
 pub mod record;
 pub mod refusal;
-pub mod rows;
 pub mod twice;

@@ -1,10 +1,11 @@
 // The interface of records.
 ghost use Rattle.std.specs.Prelude.{◌≡◌, ◌≤◌, length};
-ghost use Rattle.letter.specs.Full.{Full, full};
+ghost use Rattle.letter.specs.declared.full.Full.{Full};
+ghost use Rattle.letter.specs.Full.{full};
 ghost use Rattle.record.specs.Recorded.{Recorded, Reads, Adds, SameIfRefused};
 
 use crate::refusal::Refusal;
-use letter::full::{Tag, Tagged};
+use letter::full::{Full, Tag};
 use letter::kind::Kind;
 
 // The most letters that a record holds.
@@ -24,7 +25,7 @@ pub trait Record {
         ensures same { self.new ≡ self.old };
 
     // The letter at the place, or a refusal where there is none.
-    fn letter(&mut self, place: usize) -> Result<Tagged<Self::Letter>, Refusal>
+    fn letter(&mut self, place: usize) -> Result<Full<Self::Letter>, Refusal>
         ensures value { Reads place (content self.old) result (content self.new) }
         ensures same { self.new ≡ self.old };
 

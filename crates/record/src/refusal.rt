@@ -2,19 +2,17 @@
 ghost use Rattle.std.specs.Prelude.{◌≡◌};
 ghost use Rattle.record.specs.Refusals.{number_of};
 
-#[derive(Clone, Copy)]
+// Each with the number that documents it.
+#[derive(Clone, Copy, Debug, PartialEq, Eq)]
 pub enum Refusal {
-    DoesNotFit,
-    NoPlace,
+    DoesNotFit = 22,
+    NoPlace = 26,
 }
 
 impl Refusal {
     pub fn number(self) -> u8
         ensures value { result ≡ number_of self }
     {
-        match self {
-            Refusal::DoesNotFit => 22,
-            Refusal::NoPlace => 26,
-        }
+        self as u8
     }
 }

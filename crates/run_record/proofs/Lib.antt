@@ -1,3 +1,2 @@
-pub mod Slices
 pub mod Tally
 pub mod Pushes

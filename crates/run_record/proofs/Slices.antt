@@ -3,9 +3,9 @@ use Rattle.std.proofs.Common.{◌≡◌, ℕ, zero, suc, ◌+◌, ◌-◌, ◌<�
 use Rattle.std.proofs.lemmas.List.{take_rest, take_all}
 use Rattle.std.proofs.lemmas.Bool.{ne_eqb, le-ltb, cases_lt}
 use Rattle.std.specs.List.{slice_get}
-use Rattle.letter.specs.Full.{Full}
+use Rattle.letter.specs.declared.full.Full.{Full}
 use Rattle.run_record.specs.declared.run.Run.{Run}
-use Rattle.run_record.specs.Runs.{continues, tally, letter_of, spread}
+use Rattle.run_record.specs.Runs.{continues, tally, spread}
 
 -- a slice is its first element and the rest
 pub opened : {X : Type 0} (xs : List X) (x : X) → 0 < length xs → x ≡ get_or xs 0 x → xs ≡ x ∷ take (length xs - 1) (drop 1 xs)
@@ -13,8 +13,8 @@ opened [] x h e = let no_way : ⊥ = omega arith in absurd no_way
 opened (y ∷ ys) x h e = ap (λ z. z ∷ ys) (sym e) ∙ ap (λ zs. x ∷ zs) (sym (take_rest (y ∷ ys) 1))
 
 pub tally_step : {L : Type 0} (eq : L → L → Bool) (before : Option (Full L)) (sum : ℕ) (xs : List (Run L)) (x : Run L)
-    → 0 < length xs → x ≡ get_or xs 0 x → (x.length ≡ 0 → ⊥) → continues eq before (letter_of x) ≡ false → sum + x.length ≤ 512
-    → tally eq (Some (letter_of x)) (sum + x.length) (take (length xs - 1) (drop 1 xs)) ≡ tally eq before sum xs
+    → 0 < length xs → x ≡ get_or xs 0 x → (x.length ≡ 0 → ⊥) → continues eq before x.letter ≡ false → sum + x.length ≤ 512
+    → tally eq (Some x.letter) (sum + x.length) (take (length xs - 1) (drop 1 xs)) ≡ tally eq before sum xs
 tally_step eq before sum xs x h e some new few =
     sym (ap (tally eq before sum) (opened xs x h e) ∙ rw (ne_eqb x.length 0 some, new, le-ltb 512 (sum + x.length) few))
 

@@ -2,9 +2,11 @@
 use Rattle.std.proofs.Common.{◌≡◌, ℕ, zero, suc, ◌+◌, ◌≤◌, min, Bool, true, false, cond, ◌&&◌, ◌||◌, eqb, ltb, List, [], ◌∷◌, ◌++◌, length, replicate, Some, None, Decides, Option, sym, refl, ap, ◌∙◌, ap₂, arith, length-append}
 use lib.ListN.{length-replicate}
 use Rattle.std.proofs.lemmas.Bool.{ne_eqb, le-ltb, ltb-false}
-use Rattle.letter.specs.Full.{Full, top, bottom, ordinary, same_full}
+use Rattle.letter.specs.declared.full.Full.{Full}
+use Rattle.letter.specs.declared.full.Full.TheVariants.{Top, Bottom, Ordinary}
+use Rattle.letter.specs.Full.{same_full}
 use Rattle.run_record.specs.declared.run.Run.{Run}
-use Rattle.run_record.specs.Runs.{letter_of, spread, continues, tally, stretches, last_letter, last_row, run_fits}
+use Rattle.run_record.specs.Runs.{spread, continues, tally, stretches, last_letter, last_row, run_fits}
 
 -- the row with one letter more
 abbrev pub longer : {L : Type 0} → Run L → Run L
@@ -24,14 +26,14 @@ module _ {L : Type 0} (eq : L → L → Bool) where
   -- what a tally says of its first row
   record Parts (before : Option (Full L)) (sum : ℕ) (r : Run L) (rs : List (Run L)) (n : ℕ) : Type 0 where
     some : eqb r.length 0 ≡ false
-    new : continues eq before (letter_of r) ≡ false
+    new : continues eq before r.letter ≡ false
     few : ltb 512 (sum + r.length) ≡ false
-    tail : tally eq (Some (letter_of r)) (sum + r.length) rs ≡ Some n
+    tail : tally eq (Some r.letter) (sum + r.length) rs ≡ Some n
 
   parts : (before : Option (Full L)) (sum : ℕ) (r : Run L) (rs : List (Run L)) (n : ℕ) → tally eq before sum (r ∷ rs) ≡ Some n → Parts before sum r rs n
   parts before sum r rs n e =
       let a = cond_some (eqb r.length 0) _ n e in
-      let b = cond_some (continues eq before (letter_of r)) _ n a.1 in
+      let b = cond_some (continues eq before r.letter) _ n a.1 in
       let c = cond_some (ltb 512 (sum + r.length)) _ n b.1 in
       record { some = a.0; new = b.0; few = c.0; tail = c.1 }
 
@@ -43,19 +45,19 @@ module _ {L : Type 0} (eq : L → L → Bool) where
   tally_count [] before sum n e = omega (arith, same_some sum n e)
   tally_count (r ∷ rs) before sum n e =
       let q = parts before sum r rs n e in
-      let later = tally_count rs (Some (letter_of r)) (sum + r.length) n q.tail in
-      omega (arith, later, length-append (replicate r.length (letter_of r)) (spread rs), length-replicate r.length (letter_of r))
+      let later = tally_count rs (Some r.letter) (sum + r.length) n q.tail in
+      omega (arith, later, length-append (replicate r.length r.letter) (spread rs), length-replicate r.length r.letter)
 
   -- and at most 512
   pub tally_few : (rs : List (Run L)) (before : Option (Full L)) (sum n : ℕ) → sum ≤ 512 → tally eq before sum rs ≡ Some n → n ≤ 512
   tally_few [] before sum n h e = omega (arith, same_some sum n e)
   tally_few (r ∷ rs) before sum n h e =
       let q = parts before sum r rs n e in
-      tally_few rs (Some (letter_of r)) (sum + r.length) n (ltb-false _ _ q.few) q.tail
+      tally_few rs (Some r.letter) (sum + r.length) n (ltb-false _ _ q.few) q.tail
 
   -- a row of another letter
   pub tally_push : (rs : List (Run L)) (before : Option (Full L)) (sum n : ℕ) (r : Run L) → tally eq before sum rs ≡ Some n → (r.length ≡ 0 → ⊥)
-      → continues eq (last_row before rs) (letter_of r) ≡ false → n + r.length ≤ 512 → tally eq before sum (rs ++ (r ∷ [])) ≡ Some (n + r.length)
+      → continues eq (last_row before rs) r.letter ≡ false → n + r.length ≤ 512 → tally eq before sum (rs ++ (r ∷ [])) ≡ Some (n + r.length)
   tally_push [] before sum n r e some new few =
       let is = same_some sum n e in
       let le : sum + r.length ≤ 512 = omega arith in
@@ -63,7 +65,7 @@ module _ {L : Type 0} (eq : L → L → Bool) where
   tally_push (x ∷ rs) before sum n r e some new few =
       let q = parts before sum x rs n e in
       whole before sum x (rs ++ (r ∷ [])) (n + r.length)
-      (record { some = q.some; new = q.new; few = q.few; tail = tally_push rs (Some (letter_of x)) (sum + x.length) n r q.tail some new few })
+      (record { some = q.some; new = q.new; few = q.few; tail = tally_push rs (Some x.letter) (sum + x.length) n r q.tail some new few })
 
   -- the last row made longer
   pub tally_longer : (rs : List (Run L)) (before : Option (Full L)) (sum n : ℕ) (r : Run L) → tally eq before sum (rs ++ (r ∷ [])) ≡ Some n → n + 1 ≤ 512
@@ -78,13 +80,13 @@ module _ {L : Type 0} (eq : L → L → Bool) where
   tally_longer (x ∷ rs) before sum n r e few =
       let q = parts before sum x (rs ++ (r ∷ [])) n e in
       whole before sum x (rs ++ (longer r ∷ [])) (n + 1)
-      (record { some = q.some; new = q.new; few = q.few; tail = tally_longer rs (Some (letter_of x)) (sum + x.length) n r q.tail few })
+      (record { some = q.some; new = q.new; few = q.few; tail = tally_longer rs (Some x.letter) (sum + x.length) n r q.tail few })
 
   module _ (decided : (x y : L) → Decides (eq x y) (x ≡ y)) where
     itself : (x : Full L) → same_full eq x x ≡ true
-    itself top = refl
-    itself bottom = refl
-    itself (ordinary l) = (decided l l).1 refl
+    itself Top = refl
+    itself Bottom = refl
+    itself (Ordinary l) = (decided l l).1 refl
 
     -- a stretch that goes on counts no more, and ends in its letter
     goes_on : (k : ℕ) (x : Full L) (ys : List (Full L)) → stretches eq (Some x) (replicate k x ++ ys) ≡ stretches eq (Some x) ys
@@ -110,8 +112,8 @@ module _ {L : Type 0} (eq : L → L → Bool) where
     rows_told [] before sum n e = (refl, refl)
     rows_told (r ∷ rs) before sum n e =
         let q = parts before sum r rs n e in
-        let (many, ends) = one_row before r.length (letter_of r) (spread rs) q.some q.new in
-        let (later, last) = rows_told rs (Some (letter_of r)) (sum + r.length) n q.tail in
+        let (many, ends) = one_row before r.length r.letter (spread rs) q.some q.new in
+        let (later, last) = rows_told rs (Some r.letter) (sum + r.length) n q.tail in
         (many ∙ ap suc later, ends ∙ last)
 
     -- so what fits can be told from the rows
@@ -125,12 +127,12 @@ module _ {L : Type 0} (eq : L → L → Bool) where
 
   -- letters that are the same are one value
   pub same_told : ((x y : L) → Decides (eq x y) (x ≡ y)) → (x y : Full L) → same_full eq x y ≡ true → x ≡ y
-  same_told decided top top e = refl
-  same_told decided bottom bottom e = refl
-  same_told decided (ordinary x) (ordinary y) e = ap ordinary ((decided x y).0 e)
-  same_told decided top bottom e = never e
-  same_told decided top (ordinary y) e = never e
-  same_told decided bottom top e = never e
-  same_told decided bottom (ordinary y) e = never e
-  same_told decided (ordinary x) top e = never e
-  same_told decided (ordinary x) bottom e = never e
+  same_told decided Top Top e = refl
+  same_told decided Bottom Bottom e = refl
+  same_told decided (Ordinary x) (Ordinary y) e = ap Ordinary ((decided x y).0 e)
+  same_told decided Top Bottom e = never e
+  same_told decided Top (Ordinary y) e = never e
+  same_told decided Bottom Top e = never e
+  same_told decided Bottom (Ordinary y) e = never e
+  same_told decided (Ordinary x) Top e = never e
+  same_told decided (Ordinary x) Bottom e = never e

@@ -1,18 +1,14 @@
 -- What the rows of the run record mean.
 use Rattle.std.specs.Prelude.{◌≡◌, ℕ, suc, ◌+◌, min, Bool, true, false, cond, ◌&&◌, ◌||◌, List, [], ◌∷◌, ◌++◌, length, take, replicate, Some, None, Option, ◌==◌, nat_lt}
-use Rattle.letter.specs.declared.full.Tagged.{Tagged}
-use Rattle.letter.specs.Full.{Full, held_in, same_full}
+use Rattle.letter.specs.declared.full.Full.{Full}
+use Rattle.letter.specs.Full.{same_full}
 use Rattle.run_record.specs.declared.run.Run.{Run}
 use Rattle.record.specs.Recorded.{Recorded}
-
--- the letter of a row
-abbrev pub letter_of : {L : Type 0} → Run L → Full L
-letter_of r = held_in r.letter
 
 -- the letters of rows: each row's letter as often as its length says
 abbrev pub spread : {L : Type 0} → List (Run L) → List (Full L)
 spread [] = []
-spread (r ∷ rs) = replicate r.length (letter_of r) ++ spread rs
+spread (r ∷ rs) = replicate r.length r.letter ++ spread rs
 
 -- whether x is the same as the letter before it
 abbrev pub continues : {L : Type 0} → (L → L → Bool) → Option (Full L) → Full L → Bool
@@ -25,8 +21,8 @@ abbrev pub tally : {L : Type 0} → (L → L → Bool) → Option (Full L) → �
 tally equals before sum [] = Some sum
 tally equals before sum (r ∷ rs) =
     cond (r.length == 0) None
-    (cond (continues equals before (letter_of r)) None
-    (cond (nat_lt 512 (sum + r.length)) None (tally equals (Some (letter_of r)) (sum + r.length) rs)))
+    (cond (continues equals before r.letter) None
+    (cond (nat_lt 512 (sum + r.length)) None (tally equals (Some r.letter) (sum + r.length) rs)))
 
 -- rows that adds cannot have left do not count
 abbrev pub kept : {L : Type 0} → Option ℕ → List (Run L) → List (Run L)
@@ -57,12 +53,7 @@ run_content equals used rows = record { letters = spread (counted equals (take (
 -- the letter of the last row, after the letter `before`
 abbrev pub last_row : {L : Type 0} → Option (Full L) → List (Run L) → Option (Full L)
 last_row before [] = before
-last_row before (r ∷ rs) = last_row (Some (letter_of r)) rs
-
--- the full letter, if there is one
-abbrev pub held_if : {L : Type 0} → Option (Tagged L) → Option (Full L)
-held_if None = None
-held_if (Some t) = Some (held_in t)
+last_row before (r ∷ rs) = last_row (Some r.letter) rs
 
 -- One letter more in the first `used` rows: it does not fit and nothing has changed, or it stands at the end of the letters of the rows now in use.
 abbrev pub Pushes : {L : Type 0} → (L → L → Bool) → ℕ → Full L → List (Run L) → Option ℕ → List (Run L) → Type 0

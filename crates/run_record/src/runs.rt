@@ -2,14 +2,15 @@
 ghost use Rattle.std.specs.Prelude.{◌≡◌, None};
 ghost use Rattle.run_record.specs.Runs.{run_content, stretches as stretches_of};
 
-use crate::run::{Run, count_rows, find_among, push};
-use letter::full::{Tag, Tagged};
+use crate::run::{Run, count_rows, letter_at, push};
+use letter::full::{Full, Tag};
 use letter::kind::Kind;
 use record::record::Record;
 use record::refusal::Refusal;
 
 // The letters stand in the first `used` of the caller's rows, of which the first 64 at most are used.
 // Nothing is asked of the two: rows in use that adds cannot have left are an empty record.
+// Stays a slice with a count: the rows are the caller's memory, and a record keeps no invariant over them, by rules of the project.
 #[derive(Drop)]
 pub struct Runs<'a, K> {
     rows: &'a mut [Run<K>],
@@ -19,21 +20,21 @@ pub struct Runs<'a, K> {
 impl<'a, K: Kind> Runs<'a, K> {
     // An empty record.
     pub fn new(rows: &'a mut [Run<K>]) -> Runs<'a, K>
-        ensures made { run_content K.Kind.equals result.used result.rows.now ≡ run_content K.Kind.equals 0 rows.old }
+        ensures made { run_content K.eq result.used result.rows.now ≡ run_content K.eq 0 rows.old }
     {
         Runs { rows, used: 0 }
     }
 
     // The record of the letters that the first `used` rows hold already.
     pub fn resume(rows: &'a mut [Run<K>], used: usize) -> Runs<'a, K>
-        ensures made { run_content K.Kind.equals result.used result.rows.now ≡ run_content K.Kind.equals used rows.old }
+        ensures made { run_content K.eq result.used result.rows.now ≡ run_content K.eq used rows.old }
     {
         Runs { rows, used }
     }
 
     // The number of stretches of same letters, which are the rows in use: what to hand over to `resume` with the rows.
     pub fn stretches(&mut self) -> usize
-        ensures value { result ≡ stretches_of K.Kind.equals None (run_content K.Kind.equals self.old.used self.old.rows.now).letters }
+        ensures value { result ≡ stretches_of K.eq None (run_content K.eq self.old.used self.old.rows.now).letters }
         ensures same { self.new ≡ self.old }
     {
         let used = self.used;
@@ -44,31 +45,22 @@ impl<'a, K: Kind> Runs<'a, K> {
 impl<'a, K: Kind> Record for Runs<'a, K> {
     type Letter = K;
 
-    ghost content = { λ s. run_content K.Kind.equals s.used s.rows.now };
+    ghost content = { λ s. run_content K.eq s.used s.rows.now };
 
     fn count(&mut self) -> usize {
         let used = self.used;
         count_rows(self.rows, used).letters
     }
 
-    fn letter(&mut self, place: usize) -> Result<Tagged<K>, Refusal> {
+    fn letter(&mut self, place: usize) -> Result<Full<K>, Refusal> {
         let used = self.used;
-        let counted = count_rows(self.rows, used);
-        match find_among(self.rows, counted.rows, place) {
-            Some(letter) => Ok(letter),
-            None => Err(Refusal::NoPlace),
-        }
+        letter_at(self.rows, used, place).ok_or(Refusal::NoPlace)
     }
 
     fn add(&mut self, tag: Tag, letter: K) -> Result<(), Refusal> {
         let used = self.used;
         let counted = count_rows(self.rows, used);
-        match push(self.rows, counted, Tagged { tag, letter }) {
-            Some(used) => {
-                self.used = used;
-                Ok(())
-            }
-            None => Err(Refusal::DoesNotFit),
-        }
+        self.used = push(self.rows, counted, Full::of(tag, letter)).ok_or(Refusal::DoesNotFit)?;
+        Ok(())
     }
 }

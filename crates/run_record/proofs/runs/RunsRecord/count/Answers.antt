@@ -5,7 +5,7 @@ use Rattle.run_record.proofs.runs.RunsRecord.count.Goals as goal
 
 pub returns : goal.returns
 returns g c =
-    let eq = g.K.Kind.equals in
+    let eq = g.K.PartialEq.eq in
     let rows = c.args.self.now.rows.now in
     let told = c.count_rows.ensures in
     let r = c.count_rows.result in

@@ -1,19 +1,9 @@
 // The flat record on examples.
-use letter::full::{Tag, Tagged};
-use letter::kind::Kind;
+use letter::full::{Full, Tag};
 use letter::wire::Wire;
 use record::flat::Flat;
 use record::record::Record;
-use record::refusal::Refusal;
 use record::twice::add_twice;
-
-// The number of a refusal, or 0.
-fn refused(r: Result<(), Refusal>) -> u8 {
-    match r {
-        Ok(_) => 0,
-        Err(refusal) => refusal.number(),
-    }
-}
 
 #[test]
 fn filling(rt: HostRuntime) {
@@ -29,15 +19,19 @@ fn filling(rt: HostRuntime) {
         (512, 513, 512),
         (520, 513, 512),
     ] {
-        let mut rows = [Tagged {
-            tag: Tag::Top,
-            letter: Wire::empty(),
-        }; 520];
+        let mut rows = [Full::Top; 520];
         assert!(rt; there <= rows.len());
         let mut flat = Flat::new(&mut rows[0..there]);
         for i in 0..tried {
-            let r = flat.add(Tag::Ordinary, Wire::of(i));
-            assert_eq!(rt; refused(r), if flat.count() > i as usize { 0 } else { 22 });
+            let r = flat.add(Tag::Ordinary, Wire::of(i)).map_err(|e| e.number());
+            assert_eq!(rt;
+                r,
+                if flat.count() > i as usize {
+                    Ok(())
+                } else {
+                    Err(22)
+                }
+            );
         }
         assert_eq!(rt; flat.count(), granted);
     }
@@ -45,35 +39,29 @@ fn filling(rt: HostRuntime) {
 
 #[test]
 fn places(rt: HostRuntime) {
-    // the count handed over, the place asked for, the refusal's number or 0
-    for (count, place, number) in [
-        (0, 0, 26),
-        (2, 0, 0),
-        (2, 1, 0),
-        (2, 2, 26),
-        (3, 2, 0),
-        (9, 2, 0),
-        (9, 3, 26),
+    // the count handed over, the place asked for, whether the letter there satisfies atom 2, or the refusal's number
+    for (count, place, expected) in [
+        (0, 0, Err(26)),
+        (2, 0, Ok(true)),
+        (2, 1, Ok(true)),
+        (2, 2, Err(26)),
+        (3, 2, Ok(true)),
+        (9, 2, Ok(true)),
+        (9, 3, Err(26)),
     ] {
-        let mut rows = [Tagged {
-            tag: Tag::Ordinary,
-            letter: Wire::of(4),
-        }; 3];
+        let mut rows = [Full::Ordinary(Wire::of(4)); 3];
         let mut flat = Flat::resume(&mut rows, count);
-        let number_told = match flat.letter(place) {
-            Ok(row) => if row.letter.satisfies(2) { 0 } else { 1 },
-            Err(refusal) => refusal.number(),
-        };
-        assert_eq!(rt; number_told, number);
+        let told = flat
+            .letter(place)
+            .map(|letter| letter.satisfies(2))
+            .map_err(|e| e.number());
+        assert_eq!(rt; told, expected);
     }
 }
 
 #[test]
 fn twice(rt: HostRuntime) {
-    let mut rows = [Tagged {
-        tag: Tag::Top,
-        letter: Wire::empty(),
-    }; 3];
+    let mut rows = [Full::Top; 3];
     let mut flat = Flat::new(&mut rows);
     assert_eq!(rt; add_twice(&mut flat, Tag::Bottom, Wire::empty()), 2);
     assert_eq!(rt; add_twice(&mut flat, Tag::Bottom, Wire::empty()), 3);

@@ -1,6 +1,5 @@
 // Top and bottom among ordinary letters, in both records.
-use letter::full::{Tag, Tagged};
-use letter::kind::Kind;
+use letter::full::{Full, Tag};
 use letter::wire::Wire;
 use record::flat::Flat;
 use record::record::Record;
@@ -24,29 +23,15 @@ fn added_and_read<R: Record<Letter = Wire>>(rt: &impl Abort, record: &mut R) {
         assert!(rt; record.add(tag, Wire::of(bits)).is_ok());
     }
     assert_eq!(rt; record.count(), 6);
-    let mut place = 0;
-    for (tag, bits) in LETTERS {
-        let wanted = Tagged {
-            tag,
-            letter: Wire::of(bits),
-        };
-        let same = match record.letter(place) {
-            Ok(row) => row.same(&wanted),
-            Err(_) => false,
-        };
-        assert!(rt; same);
-        assert!(rt; place < 6);
-        place += 1;
+    for (place, (tag, bits)) in LETTERS.iter().enumerate() {
+        assert_eq!(rt; record.letter(place), Ok(Full::of(*tag, Wire::of(*bits))));
     }
     assert_eq!(rt; record.letter(6).is_ok(), false);
 }
 
 #[test]
 fn in_flat_rows(rt: HostRuntime) {
-    let mut rows = [Tagged {
-        tag: Tag::Bottom,
-        letter: Wire::of(7),
-    }; 6];
+    let mut rows = [Full::Bottom; 6];
     let mut flat = Flat::new(&mut rows);
     added_and_read(&rt, &mut flat);
     assert_eq!(rt; flat.add(Tag::Ordinary, Wire::of(2)).is_ok(), false);
@@ -55,10 +40,7 @@ fn in_flat_rows(rt: HostRuntime) {
 #[test]
 fn in_stretches(rt: HostRuntime) {
     let mut rows = [Run {
-        letter: Tagged {
-            tag: Tag::Bottom,
-            letter: Wire::of(7),
-        },
+        letter: Full::Bottom,
         length: 3,
     }; 4];
     let mut runs = Runs::new(&mut rows);

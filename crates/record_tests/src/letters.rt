@@ -19,10 +19,10 @@ fn wire_letters(rt: HostRuntime) {
         let letter = Wire::empty().with(put);
         assert_eq!(rt; letter.satisfies(asked), is);
         assert_eq!(rt; letter.mirror().satisfies(asked), is);
-        assert_eq!(rt; letter.same(&Wire::empty()), put > 31);
+        assert_eq!(rt; letter == Wire::empty(), put > 31);
     }
-    assert_eq!(rt; Wire::of(5).same(&Wire::empty().with(2).with(0)), true);
-    assert_eq!(rt; Wire::of(5).same(&Wire::of(4)), false);
+    assert_eq!(rt; Wire::of(5), Wire::empty().with(2).with(0));
+    assert_ne!(rt; Wire::of(5), Wire::of(4));
 }
 
 #[test]
@@ -38,13 +38,10 @@ fn simulator_letters(rt: HostRuntime) {
         let mirror = letter.mirror();
         assert_eq!(rt; letter.satisfies(7), own);
         assert_eq!(rt; mirror.satisfies(7), other);
-        assert_eq!(rt;
-            Simulated::zeros().with(7, letter.value(7)).same(&letter),
-            true
-        );
+        assert_eq!(rt; Simulated::zeros().with(7, letter.value(7)), letter);
         assert_eq!(rt; letter.satisfies(8), false);
-        assert_eq!(rt; letter.same(&mirror), own == other);
-        assert_eq!(rt; letter.same(&mirror.mirror()), true);
-        assert_eq!(rt; letter.with(32, Value::One).same(&letter), true);
+        assert_eq!(rt; letter == mirror, own == other);
+        assert_eq!(rt; letter, mirror.mirror());
+        assert_eq!(rt; letter.with(32, Value::One), letter);
     }
 }

@@ -1,19 +1,14 @@
 // The run record on examples.
-use letter::full::{Tag, Tagged};
-use letter::kind::Kind;
+use letter::full::{Full, Tag};
 use letter::wire::Wire;
 use record::record::Record;
-use record::refusal::Refusal;
 use run_record::run::Run;
 use run_record::runs::Runs;
 
 // A stretch of ordinary letters.
 fn stretch(bits: u32, length: usize) -> Run<Wire> {
     Run {
-        letter: Tagged {
-            tag: Tag::Ordinary,
-            letter: Wire::of(bits),
-        },
+        letter: Full::Ordinary(Wire::of(bits)),
         length,
     }
 }
@@ -21,10 +16,7 @@ fn stretch(bits: u32, length: usize) -> Run<Wire> {
 // A stretch of tops, with an ordinary letter that counts for nothing.
 fn tops(bits: u32, length: usize) -> Run<Wire> {
     Run {
-        letter: Tagged {
-            tag: Tag::Top,
-            letter: Wire::of(bits),
-        },
+        letter: Full::of(Tag::Top, Wire::of(bits)),
         length,
     }
 }
@@ -50,15 +42,22 @@ fn filling(rt: HostRuntime) {
         assert!(rt; there <= rows.len());
         assert!(rt; 0 < long);
         let mut runs = Runs::new(&mut rows[0..there]);
-        let mut number = 0;
+        let mut outcome = Ok(());
         for i in 0..tried {
             if let Err(refusal) = runs.add(Tag::Ordinary, Wire::of(i / long)) {
-                number = refusal.number();
+                outcome = Err(refusal.number());
             }
         }
         assert_eq!(rt; runs.count(), granted);
         assert_eq!(rt; runs.stretches(), stretches);
-        assert_eq!(rt; number, if granted as u32 == tried { 0 } else { 22 });
+        assert_eq!(rt;
+            outcome,
+            if granted as u32 == tried {
+                Ok(())
+            } else {
+                Err(22)
+            }
+        );
     }
 }
 
@@ -82,11 +81,7 @@ fn used_rows(rt: HostRuntime) {
         let mut rows = [first, second];
         let mut runs = Runs::resume(&mut rows, used);
         assert_eq!(rt; runs.count(), count);
-        let number = match runs.letter(count) {
-            Ok(_) => 0,
-            Err(refusal) => refusal.number(),
-        };
-        assert_eq!(rt; number, 26);
+        assert_eq!(rt; runs.letter(count).map_err(|e| e.number()), Err(26));
         assert_eq!(rt; runs.add(Tag::Bottom, Wire::empty()).is_ok(), count < 2);
     }
 }

@@ -4,9 +4,6 @@ use Rattle.std.proofs.lemmas.List.{take_more, get_or_push, get_or_append_left, g
 use Rattle.std.proofs.lemmas.Bool.{cases_order, eq-eqb, ne_eqb, lt-ltb}
 use Rattle.std.proofs.lemmas.Bool.Decides.{nat_tests as tests}
 use Rattle.bits.specs.Flags.{flagged}
-use Rattle.letter.specs.Full.{full, means}
-use Rattle.letter.specs.declared.full.Tag.{Tag}
-use Rattle.letter.specs.declared.full.Tag.TheVariants.{Top, Bottom, Ordinary}
 use Rattle.psl.specs.Letter.{Letter, top, bottom, ordinary, mirror, satisfies}
 use Rattle.psl.specs.Named.{Like}
 use Rattle.psl.specs.Syntax.{Condition, falsity, atom, conjunction}
@@ -15,37 +12,19 @@ use Rattle.psl.specs.declared.entry.Condition as entry
 use Rattle.psl.specs.declared.entry.Condition.TheVariants as c
 use Rattle.psl.proofs.Grow.{grow_push, length_grow}
 use Rattle.psl.proofs.Mirrors.{satisfies_negation, mirror_twice}
-use Rattle.truth.specs.Cell.{turned_tag, top_tag, worked}
+use Rattle.truth.specs.Cell.{worked}
 use Rattle.truth.specs.Rows.{tells, letter_of, named}
 
--- the letters of a kind: the mirror's tag and letter, and what they satisfy when nothing else is known
-module _ {L : Type 0} (atoms : L → ℕ → Bool) (mirrored : L → L) where
-  pub mirror_means : ((x : L) → mirrored (mirrored x) ≡ x) → (t : Tag) (x : L)
-      → means atoms mirrored (full (turned_tag t) (mirrored x)) ≡ mirror (means atoms mirrored (full t x))
-  mirror_means twice Top x = refl
-  mirror_means twice Bottom x = refl
-  mirror_means twice Ordinary x = ap (λ y. ordinary (atoms (mirrored x)) (atoms y)) (twice x)
+filled_tells : (row : List ℕ) (flag : Bool) (n : ℕ) → n ≡ 33 → ((j : ℕ) → flagged row j ≡ (ltb j (8 * n) && flag)) → (a : ℕ) → tells row a ≡ flag
+filled_tells row flag n e filled a = filled (min a 256) ∙ ap (λ b. b && flag) (lt-ltb (min a 256) (8 * n) (omega arith))
 
-  falsity_top : (t : Tag) (x : L) → top_tag t ≡ satisfies (means atoms mirrored (full t x)) falsity
-  falsity_top Top x = refl
-  falsity_top Bottom x = refl
-  falsity_top Ordinary x = refl
-
-  falsity_bottom : (t : Tag) (x : L) → top_tag (turned_tag t) ≡ satisfies (mirror (means atoms mirrored (full t x))) falsity
-  falsity_bottom Top x = refl
-  falsity_bottom Bottom x = refl
-  falsity_bottom Ordinary x = refl
-
-  filled_tells : (row : List ℕ) (flag : Bool) (n : ℕ) → n ≡ 33 → ((j : ℕ) → flagged row j ≡ (ltb j (8 * n) && flag)) → (a : ℕ) → tells row a ≡ flag
-  filled_tells row flag n e filled a = filled (min a 256) ∙ ap (λ b. b && flag) (lt-ltb (min a 256) (8 * n) (omega arith))
-
-  -- filled rows tell of the condition false only
-  pub like_filled : (t : Tag) (x : L) (own other : List ℕ) (n m : ℕ) (p q : Bool) → n ≡ 33 → m ≡ 33 → p ≡ top_tag t → q ≡ top_tag (turned_tag t)
-      → ((j : ℕ) → flagged own j ≡ (ltb j (8 * n) && p)) → ((j : ℕ) → flagged other j ≡ (ltb j (8 * m) && q))
-      → Like atom (named []) (letter_of own other) (means atoms mirrored (full t x))
-  unfolding conditions
-  like_filled t x own other n m p q e f is its filled filled_other a =
-      (filled_tells own p n e filled a ∙ is ∙ falsity_top t x, filled_tells other q m f filled_other a ∙ its ∙ falsity_bottom t x)
+-- filled rows tell of the condition false only
+pub like_filled : (l : Letter) (own other : List ℕ) (n m : ℕ) (p q : Bool) → n ≡ 33 → m ≡ 33 → p ≡ satisfies l falsity → q ≡ satisfies (mirror l) falsity
+    → ((j : ℕ) → flagged own j ≡ (ltb j (8 * n) && p)) → ((j : ℕ) → flagged other j ≡ (ltb j (8 * m) && q))
+    → Like atom (named []) (letter_of own other) l
+unfolding conditions
+like_filled l own other n m p q e f is its filled filled_other a =
+    (filled_tells own p n e filled a ∙ is, filled_tells other q m f filled_other a ∙ its)
 
 satisfies_both : (l : Letter) (b d : Condition) → satisfies l (conjunction b d) ≡ (satisfies l b && satisfies l d)
 satisfies_both top b d = refl

@@ -1,24 +1,10 @@
 -- One flag of a row, worked out from those of lower conditions.
-use Rattle.std.specs.Prelude.{ℕ, Bool, true, false, not, ◌&&◌, List}
-use Rattle.letter.specs.declared.full.Tag.{Tag}
-use Rattle.letter.specs.declared.full.Tag.TheVariants.{Top, Bottom, Ordinary}
+use Rattle.std.specs.Prelude.{ℕ, Bool, not, ◌&&◌, List}
 use Rattle.psl.specs.Letter.{Letter, satisfies}
 use Rattle.psl.specs.Syntax.{truth, falsity, atom}
 use Rattle.psl.specs.declared.entry.Condition as entry
 use Rattle.psl.specs.declared.entry.Condition.TheVariants as c
 use Rattle.truth.specs.Rows.{tells}
-
--- the tag of the mirror
-abbrev pub turned_tag : Tag → Tag
-turned_tag Top = Bottom
-turned_tag Bottom = Top
-turned_tag Ordinary = Ordinary
-
--- is it the tag of top, which satisfies the condition false
-abbrev pub top_tag : Tag → Bool
-top_tag Top = true
-top_tag Bottom = false
-top_tag Ordinary = false
 
 -- the flag of an entry at the letter l, whose row is `own` and whose mirror's row is `other`
 abbrev pub worked : Letter → List ℕ → List ℕ → entry.Condition → Bool

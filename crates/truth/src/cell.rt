@@ -1,56 +1,30 @@
 // One flag of a row, worked out from those of lower conditions.
 ghost use Rattle.std.specs.Prelude.{◌≡◌};
-ghost use Rattle.letter.specs.Full.{full, means};
+ghost use Rattle.letter.specs.Full.{means};
 ghost use Rattle.psl.specs.Letter.{satisfies};
-ghost use Rattle.psl.specs.Syntax.{atom as atom_of};
-ghost use Rattle.truth.specs.Cell.{turned_tag, top_tag, worked};
+ghost use Rattle.psl.specs.Syntax.{falsity};
+ghost use Rattle.truth.specs.Cell.{worked};
 
 use crate::row;
-use letter::full::Tag;
+use letter::full::Full;
 use letter::kind::Kind;
 use psl::entry::Condition;
 
-// The tag of the mirror.
-pub(crate) fn turned(tag: Tag) -> Tag
-    ensures value { result ≡ turned_tag tag }
+// Whether the letter satisfies the condition false: top does.
+pub(crate) fn is_top<K: Kind>(letter: &Full<K>) -> bool
+    ensures value { result ≡ satisfies (means K.Kind.atoms K.Kind.mirrored letter.now) falsity }
 {
-    match tag {
-        Tag::Top => Tag::Bottom,
-        Tag::Bottom => Tag::Top,
-        Tag::Ordinary => Tag::Ordinary,
-    }
-}
-
-// Whether it is the tag of top, which satisfies the condition false.
-pub(crate) fn is_top(tag: Tag) -> bool
-    ensures value { result ≡ top_tag tag }
-{
-    match tag {
-        Tag::Top => true,
-        Tag::Bottom => false,
-        Tag::Ordinary => false,
-    }
-}
-
-// Whether the letter satisfies the atom; no ordinary letter satisfies one from 32 on.
-fn atom<K: Kind>(tag: Tag, letter: &K, n: u16) -> bool
-    ensures value { result ≡ satisfies (means K.Kind.atoms K.Kind.mirrored (full tag letter.now)) (atom_of n) }
-{
-    match tag {
-        Tag::Top => true,
-        Tag::Bottom => false,
-        Tag::Ordinary => n < 32 && letter.satisfies(n as u8),
-    }
+    matches!(letter, Full::Top)
 }
 
 // Whether the letter satisfies the condition, from its row and its mirror's row of the conditions before it.
-pub(crate) fn cell<K: Kind>(tag: Tag, letter: &K, term: Condition, own: &[u8], other: &[u8]) -> bool
-    ensures value { result ≡ worked (means K.Kind.atoms K.Kind.mirrored (full tag letter.now)) own.now other.now term }
+pub(crate) fn cell<K: Kind>(letter: &Full<K>, term: Condition, own: &[u8], other: &[u8]) -> bool
+    ensures value { result ≡ worked (means K.Kind.atoms K.Kind.mirrored letter.now) own.now other.now term }
 {
     match term {
-        Condition::True => !is_top(turned(tag)),
-        Condition::False => is_top(tag),
-        Condition::Atom(n) => atom(tag, letter, n),
+        Condition::True => !matches!(letter, Full::Bottom),
+        Condition::False => is_top(letter),
+        Condition::Atom(n) => letter.satisfies(n),
         Condition::Not(a) => !row::tells(other, a),
         Condition::And(a, b) => row::tells(own, a) & row::tells(own, b),
     }

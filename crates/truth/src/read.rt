@@ -1,15 +1,15 @@
 // Reading a record into a truth table.
 ghost use Rattle.std.specs.Prelude.{◌≡◌, ℕ, ◌<◌, ◌≤◌, map, length};
-ghost use Rattle.letter.specs.Full.{full, means};
+ghost use Rattle.letter.specs.Full.{means};
 ghost use Rattle.psl.specs.Named.{Like};
 ghost use Rattle.psl.specs.Syntax.{atom};
 ghost use Rattle.truth.specs.Answer.{Read};
 ghost use Rattle.truth.specs.Rows.{letter_of, named, row_at};
 
-use crate::cell::{cell, is_top, turned};
+use crate::cell::{cell, is_top};
 use crate::row::{MOST_CONDITIONS, ROW};
 use bits::flags;
-use letter::full::Tag;
+use letter::full::Full;
 use letter::kind::Kind;
 use psl::entry::Condition;
 use record::record::Record;
@@ -18,27 +18,21 @@ use record::record::Record;
 pub const TABLE: usize = 16896;
 
 // Writes the row of a letter, and its mirror's: first what they tell of the condition false, then condition after condition.
-fn write_letter<K: Kind>(
-    tag: Tag,
-    letter: &K,
-    entries: &[Condition],
-    own: &mut [u8],
-    other: &mut [u8],
-)
+// Stays two slices, `own` and `other`, here and below: they are read crosswise at each flag, so a struct of both would be taken apart at once.
+fn write_letter<K: Kind>(letter: &Full<K>, entries: &[Condition], own: &mut [u8], other: &mut [u8])
     requires few { length entries.now ≤ 256 }
     requires len { length own.old ≡ 33 }
     requires len_other { length other.old ≡ 33 }
-    ensures items { Like atom (named entries.now) (letter_of own.new other.new) (means K.Kind.atoms K.Kind.mirrored (full tag letter.now)) }
+    ensures items { Like atom (named entries.now) (letter_of own.new other.new) (means K.Kind.atoms K.Kind.mirrored letter.now) }
     ensures len { length own.new ≡ length own.old }
     ensures len_other { length other.new ≡ length other.old }
 {
-    let mirror_tag = turned(tag);
     let mirror = letter.mirror();
-    flags::fill(own, is_top(tag));
-    flags::fill(other, is_top(mirror_tag));
-    for n in 0..entries.len() {
-        let flag = cell(tag, letter, entries[n], own, other);
-        let mirror_flag = cell(mirror_tag, &mirror, entries[n], other, own);
+    flags::fill(own, is_top(letter));
+    flags::fill(other, is_top(&mirror));
+    for (n, entry) in entries.iter().enumerate() {
+        let flag = cell(letter, *entry, own, other);
+        let mirror_flag = cell(&mirror, *entry, other, own);
         flags::put(own, n, flag);
         flags::put(other, n, mirror_flag);
     }
@@ -46,8 +40,7 @@ fn write_letter<K: Kind>(
 
 // Writes the rows of place k.
 fn write_place<K: Kind>(
-    tag: Tag,
-    letter: &K,
+    letter: &Full<K>,
     entries: &[Condition],
     k: usize,
     own: &mut [u8],
@@ -57,7 +50,7 @@ fn write_place<K: Kind>(
     requires place { k < 512 }
     requires len { 16896 ≤ length own.old }
     requires len_other { 16896 ≤ length other.old }
-    ensures items { Like atom (named entries.now) (letter_of (row_at own.new k) (row_at other.new k)) (means K.Kind.atoms K.Kind.mirrored (full tag letter.now)) }
+    ensures items { Like atom (named entries.now) (letter_of (row_at own.new k) (row_at other.new k)) (means K.Kind.atoms K.Kind.mirrored letter.now) }
     ensures same { (j : ℕ) → j < k → row_at own.new j ≡ row_at own.old j }
     ensures same_other { (j : ℕ) → j < k → row_at other.new j ≡ row_at other.old j }
     ensures len { length own.new ≡ length own.old }
@@ -65,7 +58,6 @@ fn write_place<K: Kind>(
 {
     let from = k * ROW;
     write_letter(
-        tag,
         letter,
         entries,
         &mut own[from..from + ROW],
@@ -91,8 +83,8 @@ pub fn read<R: Record>(
     }
     let count = record.count();
     for k in 0..count {
-        if let Ok(row) = record.letter(k) {
-            write_place(row.tag, &row.letter, entries, k, own, other);
+        if let Ok(letter) = record.letter(k) {
+            write_place(&letter, entries, k, own, other);
         }
     }
     Some(count)

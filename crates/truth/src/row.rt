@@ -1,5 +1,5 @@
 // Rows of a truth table: 33 bytes a place, a flag for each of 256 conditions and one for the condition false.
-ghost use Rattle.std.specs.Prelude.{◌≡◌, min};
+ghost use Rattle.std.specs.Prelude.{◌≡◌};
 ghost use Rattle.truth.specs.Rows.{row_at, tells};
 
 use bits::flags;
@@ -10,18 +10,12 @@ pub const MOST_CONDITIONS: usize = 256;
 // The bytes of a row: 257 flags fit.
 pub const ROW: usize = 33;
 
-fn least(a: usize, b: usize) -> usize
-    ensures value { result ≡ min a b }
-{
-    if a < b { a } else { b }
-}
-
 // The row of place k, or what the bytes have of it.
 pub fn row(bytes: &[u8], k: usize) -> &[u8]
     ensures value { result.now ≡ row_at bytes.now k }
 {
-    let from = least(k.saturating_mul(ROW), bytes.len());
-    let to = least(from.saturating_add(ROW), bytes.len());
+    let from = k.saturating_mul(ROW).min(bytes.len());
+    let to = from.saturating_add(ROW).min(bytes.len());
     &bytes[from..to]
 }
 
@@ -29,5 +23,5 @@ pub fn row(bytes: &[u8], k: usize) -> &[u8]
 pub fn tells(row: &[u8], n: u16) -> bool
     ensures value { result ≡ tells row.now n }
 {
-    flags::told(row, least(usize::from(n), MOST_CONDITIONS))
+    flags::told(row, usize::from(n).min(MOST_CONDITIONS))
 }

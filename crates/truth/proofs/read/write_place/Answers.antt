@@ -1,5 +1,5 @@
 use Rattle.std.proofs.Common.{◌≡◌, ◌+◌, ◌-◌, ◌*◌, ◌≤◌, length, take, drop, sym, ◌∙◌, subst, ap₂, arith, length-drop, length-take}
-use Rattle.letter.specs.Full.{full, means}
+use Rattle.letter.specs.Full.{means}
 use Rattle.psl.specs.Named.{Like}
 use Rattle.psl.specs.Syntax.{atom}
 use Rattle.truth.specs.Rows.{letter_of, named}
@@ -21,7 +21,7 @@ returns g c =
     let long_other : length y ≡ 33 = c.write_letter.ensures.len_other ∙ cut_other in
     record {
       items =
-          subst (λ m. Like atom (named c.args.entries.now) m (means g.K.Kind.atoms g.K.Kind.mirrored (full c.args.tag c.args.letter.now)))
+          subst (λ m. Like atom (named c.args.entries.now) m (means g.K.Kind.atoms g.K.Kind.mirrored c.args.letter.now))
           (sym (ap₂ letter_of (row_here u x k long room) (row_here v y k long_other room_other))) c.write_letter.ensures.items;
       same = row_before u x k long room;
       same_other = row_before v y k long_other room_other;

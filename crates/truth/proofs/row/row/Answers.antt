@@ -3,4 +3,4 @@ use Rattle.truth.proofs.Places.{row_cut}
 use Rattle.truth.proofs.row.row.Goals as goal
 
 pub returns : goal.returns
-returns c = record { value = row_cut c.args.bytes.now c.args.k c.least-from.result c.least-to.result (omega arith) (omega arith) }
+returns c = record { value = row_cut c.args.bytes.now c.args.k c.min-from.result c.min-to.result (omega arith) (omega arith) }

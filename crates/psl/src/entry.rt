@@ -1,4 +1,5 @@
 // Entries of the tables of a property; an operand is the number of an entry.
+// Stays numbers, not boxed trees: the library has no heap, and judging goes down numbers that fall, by rules of the project.
 
 // An entry of a table of conditions.
 #[derive(Clone, Copy)]

@@ -1,5 +1,5 @@
 // What a property place is asked.
-ghost use Rattle.std.specs.Prelude.{◌≡◌, ◌-◌, ◌≤◌, true, [], ◌∷◌, map, length, take, IfSome, Some};
+ghost use Rattle.std.specs.Prelude.{◌≡◌, ◌-◌, ◌≤◌, true, [], ◌∷◌, map, length, IfSome, Some};
 ghost use Rattle.std.specs.List.{slice_get};
 ghost use Rattle.answer.specs.Questions.{Call};
 ghost use Rattle.psl.specs.Table.{size};
@@ -15,27 +15,13 @@ ghost use Rattle.property.specs.Place.{conditions_of, sequences_of, formulas_of,
 use crate::place::Property;
 use file::read::read_tables;
 use file::refusal::Refusal;
-use file::tables::{Counts, Tables};
+use file::tables::Tables;
 use psl::entry::{Condition, Formula, Sequence};
-
-// Row `i` of a table of which the first `count` rows are in use.
-fn row<E: Copy>(table: &[E], count: usize, i: usize) -> Option<E>
-    requires { count ≤ length table.now }
-    ensures { result ≡ slice_get (take count table.now) i }
-{
-    if i < count { Some(table[i]) } else { None }
-}
-
-// The first `count` rows of a table.
-fn used<E>(table: &[E], count: usize) -> &[E]
-    requires { count ≤ length table.now }
-    ensures { result.now ≡ take count table.now }
-{
-    &table[0..count]
-}
+use table::table::Table;
 
 impl Property {
     // The weak formula on the condition true.
+    #[tactic(auto, unfolding(crate::specs::Place::conditions_of, crate::specs::Place::sequences_of, crate::specs::Place::formulas_of))]
     pub fn new() -> Property
         ensures conditions { conditions_of result ≡ True ∷ [] }
         ensures sequences { sequences_of result ≡ [] }
@@ -43,20 +29,16 @@ impl Property {
     {
         Property {
             tables: Tables {
-                counts: Counts {
-                    conditions: 1,
-                    sequences: 0,
-                    formulas: 1,
-                },
-                conditions: [Condition::True; 64],
-                sequences: [Sequence::Empty; 64],
-                sizes: [0; 64],
-                formulas: [Formula::Weak(0); 64],
+                conditions: Table::of(&[Condition::True], Condition::True),
+                sequences: Table::new(Sequence::Empty),
+                sizes: Table::new(0),
+                formulas: Table::of(&[Formula::Weak(0)], Formula::Weak(0)),
             },
         }
     }
 
     // Takes the property that the bytes spell; a refusal keeps the one that is there.
+    #[tactic(auto, unfolding(crate::specs::Place::conditions_of, crate::specs::Place::sequences_of, crate::specs::Place::formulas_of))]
     pub fn read(&mut self, bytes: &[u8]) -> Result<(), Refusal>
         ensures { Call (questions bytes.now) (λ _. HoldsFile bytes.now) self.old result self.new }
     {
@@ -64,90 +46,100 @@ impl Property {
         Ok(())
     }
 
+    #[tactic(auto, unfolding(crate::specs::Place::conditions_of), using(crate::proofs::Held::some_conditions))]
     pub fn condition_count(&self) -> usize
         ensures value { result ≡ length (conditions_of self.now) }
         ensures low_bound { 1 ≤ result }
         ensures high_bound { result ≤ 64 }
     {
-        self.tables.counts.conditions
+        self.tables.conditions.len()
     }
 
+    #[tactic(auto, unfolding(crate::specs::Place::sequences_of))]
     pub fn sequence_count(&self) -> usize
         ensures value { result ≡ length (sequences_of self.now) }
         ensures high_bound { result ≤ 64 }
     {
-        self.tables.counts.sequences
+        self.tables.sequences.len()
     }
 
+    #[tactic(auto, unfolding(crate::specs::Place::formulas_of), using(crate::proofs::Held::some_formulas))]
     pub fn formula_count(&self) -> usize
         ensures value { result ≡ length (formulas_of self.now) }
         ensures low_bound { 1 ≤ result }
         ensures high_bound { result ≤ 64 }
     {
-        self.tables.counts.formulas
+        self.tables.formulas.len()
     }
 
     // Condition `i`, whose operands name what they may.
+    #[tactic(auto, unfolding(crate::specs::Place::conditions_of), using(crate::proofs::Held::condition_fine))]
     pub fn condition(&self, i: usize) -> Option<Condition>
         ensures value { result ≡ slice_get (conditions_of self.now) i }
         ensures names { IfSome result (λ e. condition_names i e ≡ true) }
     {
-        row(&self.tables.conditions, self.tables.counts.conditions, i)
+        self.tables.conditions.get(i)
     }
 
     // Sequence `i`, whose operands name what they may.
+    #[tactic(auto, unfolding(crate::specs::Place::sequences_of), using(crate::proofs::Held::sequence_fine))]
     pub fn sequence(&self, i: usize) -> Option<Sequence>
         ensures value { result ≡ slice_get (sequences_of self.now) i }
         ensures names { IfSome result (λ e. sequence_names (length (conditions_of self.now)) i e ≡ true) }
     {
-        row(&self.tables.sequences, self.tables.counts.sequences, i)
+        self.tables.sequences.get(i)
     }
 
     // The size of sequence `i`: of its entry, and of the tree that it denotes.
+    #[tactic(auto, unfolding(crate::specs::Place::sequences_of), using(crate::proofs::Held::size_fine))]
     pub fn sequence_size(&self, i: usize) -> Option<u16>
         ensures value { result ≡ slice_get (sizes_of (sequences_of self.now)) i }
         ensures tree { result ≡ slice_get (map size (sequence_trees self.now)) i }
         ensures high_bound { IfSome result (λ z. z ≤ 240) }
     {
-        row(&self.tables.sizes, self.tables.counts.sequences, i)
+        self.tables.sizes.get(i)
     }
 
     // Formula `i`, whose operands name what they may.
+    #[tactic(auto, unfolding(crate::specs::Place::formulas_of), using(crate::proofs::Held::formula_fine))]
     pub fn formula(&self, i: usize) -> Option<Formula>
         ensures value { result ≡ slice_get (formulas_of self.now) i }
         ensures names { IfSome result (λ e. formula_names (length (conditions_of self.now)) (length (sequences_of self.now)) i e ≡ true) }
     {
-        row(&self.tables.formulas, self.tables.counts.formulas, i)
+        self.tables.formulas.get(i)
     }
 
     // All conditions, each fit to stand after those before it.
+    #[tactic(auto, unfolding(crate::specs::Place::conditions_of), using(crate::proofs::Known::conditions_inspected))]
     pub fn conditions(&self) -> &[Condition]
         ensures value { result.now ≡ conditions_of self.now }
         ensures fine { inspected condition_rules [] result.now ≡ true }
     {
-        used(&self.tables.conditions, self.tables.counts.conditions)
+        self.tables.conditions.as_slice()
     }
 
     // All sequences, each fit to stand after those before it.
+    #[tactic(auto, unfolding(crate::specs::Place::conditions_of, crate::specs::Place::sequences_of), using(crate::proofs::Known::sequences_inspected))]
     pub fn sequences(&self) -> &[Sequence]
         ensures value { result.now ≡ sequences_of self.now }
         ensures fine { inspected (sequence_rules (length (conditions_of self.now))) [] result.now ≡ true }
     {
-        used(&self.tables.sequences, self.tables.counts.sequences)
+        self.tables.sequences.as_slice()
     }
 
     // All formulas, each fit to stand after those before it.
+    #[tactic(auto, unfolding(crate::specs::Place::conditions_of, crate::specs::Place::sequences_of, crate::specs::Place::formulas_of), using(crate::proofs::Known::formulas_inspected))]
     pub fn formulas(&self) -> &[Formula]
         ensures value { result.now ≡ formulas_of self.now }
         ensures fine { inspected (formula_rules (length (conditions_of self.now)) (length (sequences_of self.now))) [] result.now ≡ true }
     {
-        used(&self.tables.formulas, self.tables.counts.formulas)
+        self.tables.formulas.as_slice()
     }
 
     // The property itself: the last formula.
     pub fn root(&self) -> Formula
         ensures { slice_get (formulas_of self.now) (length (formulas_of self.now) - 1) ≡ Some result }
     {
-        self.tables.formulas[self.tables.counts.formulas - 1]
+        self.formulas()[self.formula_count() - 1]
     }
 }

@@ -53,3 +53,6 @@ module _ (p : Property) where
   formula_fine i e is =
       let all = inspected_at (formula_rules _ _) [] (formulas_of p) i e is (formulas_inspected p.tables p.accepts) in
       subst (λ k. formula_names (length (conditions_of p)) (length (sequences_of p)) k e ≡ true) (before_length (formulas_of p) i e is) (and_parts _ _ all).0
+
+-- what the accessors' promises rest on
+pub ruleset known = (some_conditions, some_formulas, condition_fine, sequence_fine, formula_fine, size_fine, conditions_inspected, sequences_inspected, formulas_inspected)

@@ -1,4 +1,6 @@
 // What a property place is asked.
+#![tactic(auto, unfolding(crate::specs::Place::conditions_of, crate::specs::Place::sequences_of, crate::specs::Place::formulas_of), using(crate::proofs::Held::known))]
+
 ghost use Rattle.std.specs.Prelude.{◌≡◌, ◌-◌, ◌≤◌, true, [], ◌∷◌, map, length, IfSome, Some};
 ghost use Rattle.std.specs.List.{slice_get};
 ghost use Rattle.answer.specs.Questions.{Call};
@@ -21,7 +23,6 @@ use table::table::Table;
 
 impl Property {
     // The weak formula on the condition true.
-    #[tactic(auto, unfolding(crate::specs::Place::conditions_of, crate::specs::Place::sequences_of, crate::specs::Place::formulas_of))]
     pub fn new() -> Property
         ensures conditions { conditions_of result ≡ True ∷ [] }
         ensures sequences { sequences_of result ≡ [] }
@@ -38,7 +39,6 @@ impl Property {
     }
 
     // Takes the property that the bytes spell; a refusal keeps the one that is there.
-    #[tactic(auto, unfolding(crate::specs::Place::conditions_of, crate::specs::Place::sequences_of, crate::specs::Place::formulas_of))]
     pub fn read(&mut self, bytes: &[u8]) -> Result<(), Refusal>
         ensures { Call (questions bytes.now) (λ _. HoldsFile bytes.now) self.old result self.new }
     {
@@ -46,7 +46,6 @@ impl Property {
         Ok(())
     }
 
-    #[tactic(auto, unfolding(crate::specs::Place::conditions_of), using(crate::proofs::Held::some_conditions))]
     pub fn condition_count(&self) -> usize
         ensures value { result ≡ length (conditions_of self.now) }
         ensures low_bound { 1 ≤ result }
@@ -55,7 +54,6 @@ impl Property {
         self.tables.conditions.len()
     }
 
-    #[tactic(auto, unfolding(crate::specs::Place::sequences_of))]
     pub fn sequence_count(&self) -> usize
         ensures value { result ≡ length (sequences_of self.now) }
         ensures high_bound { result ≤ 64 }
@@ -63,7 +61,6 @@ impl Property {
         self.tables.sequences.len()
     }
 
-    #[tactic(auto, unfolding(crate::specs::Place::formulas_of), using(crate::proofs::Held::some_formulas))]
     pub fn formula_count(&self) -> usize
         ensures value { result ≡ length (formulas_of self.now) }
         ensures low_bound { 1 ≤ result }
@@ -73,7 +70,6 @@ impl Property {
     }
 
     // Condition `i`, whose operands name what they may.
-    #[tactic(auto, unfolding(crate::specs::Place::conditions_of), using(crate::proofs::Held::condition_fine))]
     pub fn condition(&self, i: usize) -> Option<Condition>
         ensures value { result ≡ slice_get (conditions_of self.now) i }
         ensures names { IfSome result (λ e. condition_names i e ≡ true) }
@@ -82,7 +78,6 @@ impl Property {
     }
 
     // Sequence `i`, whose operands name what they may.
-    #[tactic(auto, unfolding(crate::specs::Place::sequences_of), using(crate::proofs::Held::sequence_fine))]
     pub fn sequence(&self, i: usize) -> Option<Sequence>
         ensures value { result ≡ slice_get (sequences_of self.now) i }
         ensures names { IfSome result (λ e. sequence_names (length (conditions_of self.now)) i e ≡ true) }
@@ -91,7 +86,6 @@ impl Property {
     }
 
     // The size of sequence `i`: of its entry, and of the tree that it denotes.
-    #[tactic(auto, unfolding(crate::specs::Place::sequences_of), using(crate::proofs::Held::size_fine))]
     pub fn sequence_size(&self, i: usize) -> Option<u16>
         ensures value { result ≡ slice_get (sizes_of (sequences_of self.now)) i }
         ensures tree { result ≡ slice_get (map size (sequence_trees self.now)) i }
@@ -101,7 +95,6 @@ impl Property {
     }
 
     // Formula `i`, whose operands name what they may.
-    #[tactic(auto, unfolding(crate::specs::Place::formulas_of), using(crate::proofs::Held::formula_fine))]
     pub fn formula(&self, i: usize) -> Option<Formula>
         ensures value { result ≡ slice_get (formulas_of self.now) i }
         ensures names { IfSome result (λ e. formula_names (length (conditions_of self.now)) (length (sequences_of self.now)) i e ≡ true) }
@@ -110,7 +103,6 @@ impl Property {
     }
 
     // All conditions, each fit to stand after those before it.
-    #[tactic(auto, unfolding(crate::specs::Place::conditions_of), using(crate::proofs::Known::conditions_inspected))]
     pub fn conditions(&self) -> &[Condition]
         ensures value { result.now ≡ conditions_of self.now }
         ensures fine { inspected condition_rules [] result.now ≡ true }
@@ -119,7 +111,6 @@ impl Property {
     }
 
     // All sequences, each fit to stand after those before it.
-    #[tactic(auto, unfolding(crate::specs::Place::conditions_of, crate::specs::Place::sequences_of), using(crate::proofs::Known::sequences_inspected))]
     pub fn sequences(&self) -> &[Sequence]
         ensures value { result.now ≡ sequences_of self.now }
         ensures fine { inspected (sequence_rules (length (conditions_of self.now))) [] result.now ≡ true }
@@ -128,7 +119,6 @@ impl Property {
     }
 
     // All formulas, each fit to stand after those before it.
-    #[tactic(auto, unfolding(crate::specs::Place::conditions_of, crate::specs::Place::sequences_of, crate::specs::Place::formulas_of), using(crate::proofs::Known::formulas_inspected))]
     pub fn formulas(&self) -> &[Formula]
         ensures value { result.now ≡ formulas_of self.now }
         ensures fine { inspected (formula_rules (length (conditions_of self.now)) (length (sequences_of self.now))) [] result.now ≡ true }

@@ -1,15 +1,23 @@
 -- The entries of a section, taken one after another.
-use Rattle.std.proofs.Common.{◌≡◌, ℕ, ◌+◌, ◌-◌, ◌<◌, ◌≤◌, true, false, List, [], ◌∷◌, ◌++◌, length, get_or, take, drop, Some, Ok, sym, refl, ap, ◌∙◌, subst, append_assoc, arith}
+use Rattle.std.proofs.Common.{◌≡◌, ℕ, ◌+◌, ◌-◌, ◌<◌, ◌≤◌, Bool, true, false, List, [], ◌∷◌, ◌++◌, length, get_or, take, drop, Some, None, Ok, sym, refl, ap, ◌∙◌, subst, append_assoc, arith}
 use mathlib.Core.Option.{none, some}
 use Rattle.std.proofs.lemmas.List.{take_rest, length_push}
+use Rattle.std.specs.declared.option.Option as std
 use Rattle.answer.specs.Questions.{Question, ◌otherwise◌, first_no}
 use Rattle.answer.proofs.FirstNo.{pass, stop}
 use Rattle.file.specs.declared.refusal.Section.{Section}
 use Rattle.file.specs.declared.refusal.Reason.{Reason}
-use Rattle.file.specs.Kinds.{Raw, raw, wide_number}
-use Rattle.file.specs.Rules.{Rules, about_entry}
+use Rattle.file.specs.declared.raw.Raw.{Raw}
+use Rattle.file.specs.Kinds.{raw, wide_number}
+use Rattle.file.specs.Rules.{Rules, about_names, about_entry}
 use Rattle.file.specs.File.{refusal, raws, located, listed, spelled, about_entries}
 use Rattle.file.specs.Filling.{Takes}
+
+-- the no to what an entry names is the first to all that its section asks
+pub names_no : {E : Type 0} (p : std.Option E) (names : E → Bool) (more : E → List (Question Reason)) (f : Reason)
+    → first_no (about_entry p (about_names names)) ≡ some f → first_no (about_entry p (λ e. about_names names e ++ more e)) ≡ some f
+names_no None names more f no_is = no_is
+names_no (Some e) names more f no_is = stop f (about_names names e) (more e) no_is
 
 -- the first entry of the bytes
 abbrev pub front : List ℕ → Raw

@@ -2,4 +2,3 @@ pub mod Entries
 pub mod Sizes
 pub mod FirstSection
 pub mod WholeFile
-pub mod Writing

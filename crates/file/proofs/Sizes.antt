@@ -1,9 +1,10 @@
 -- The sizes beside the sequences of a table.
-use Rattle.std.proofs.Common.{◌≡◌, ℕ, ◌+◌, ◌<◌, ◌≤◌, ◌≢◌, List, [], ◌∷◌, ◌++◌, length, get_or, take, set, Some, sym, ap, ◌∙◌, arith, get_or-set_other, get_or-set_same, below_more}
-use Rattle.std.proofs.lemmas.List.{take_more_set}
+use Rattle.std.proofs.Common.{◌≡◌, ℕ, zero, suc, ◌≤◌, List, [], ◌∷◌, ◌++◌, length, get_or, take, Some, sym, ap, ◌∙◌, arith}
 use Rattle.std.specs.List.{slice_get}
 use Rattle.psl.specs.declared.entry.Sequence.{Sequence}
 use Rattle.psl.proofs.Grow.{grow_push, length_grow, grow_nth}
+use Rattle.table.specs.Rows.{rows_of}
+use Rattle.file.specs.declared.sequences.Sequences.{Sequences}
 use Rattle.file.specs.Sizes.{sizes, size_over}
 
 sizes_push : (es : List Sequence) (e : Sequence) → sizes (es ++ (e ∷ [])) ≡ sizes es ++ (size_over (sizes es) e ∷ [])
@@ -11,26 +12,23 @@ unfolding sizes
 sizes_push es e = grow_push size_over [] es e
 
 -- one more size beside one more sequence
-pub sizes_more : (t : List Sequence) (zs : List ℕ) (i : ℕ) (e : Sequence) (z : ℕ) → i < length t → i < length zs
-    → take i zs ≡ sizes (take i t) → z ≡ size_over (take i zs) e → take (i + 1) (set zs i z) ≡ sizes (take (i + 1) (set t i e))
-sizes_more t zs i e z h k same is =
-    take_more_set zs i z k
-    ∙ ap (λ y. take i zs ++ (y ∷ [])) is
-    ∙ ap (λ ys. ys ++ (size_over ys e ∷ [])) same
-    ∙ sym (sizes_push (take i t) e)
-    ∙ ap sizes (sym (take_more_set t i e h))
+pub sizes_more : (es : List Sequence) (zs : List ℕ) (e : Sequence) (z : ℕ)
+    → zs ≡ sizes es → z ≡ size_over zs e → zs ++ (z ∷ []) ≡ sizes (es ++ (e ∷ []))
+sizes_more es zs e z same is = ap (λ y. zs ++ (y ∷ [])) is ∙ ap (λ ys. ys ++ (size_over ys e ∷ [])) same ∙ sym (sizes_push es e)
 
 -- one more size that is at most 240
-pub small_more : (zs : List ℕ) (i z : ℕ) → i < length zs → z ≤ 240 → ((k : ℕ) → k < i → get_or zs k 0 ≤ 240)
-    → (k : ℕ) → k < i + 1 → get_or (set zs i z) k 0 ≤ 240
-small_more zs i z h small below =
-    below_more (λ k. get_or (set zs i z) k 0 ≤ 240) i
-    (λ k l. let ne : k ≢ i = omega arith in rw get_or-set_other (below k l))
-    (rw get_or-set_same small)
+pub small_more : (zs : List ℕ) (z : ℕ) → z ≤ 240 → ((k : ℕ) → get_or zs k 0 ≤ 240) → (k : ℕ) → get_or (zs ++ (z ∷ [])) k 0 ≤ 240
+small_more [] z small below zero = small
+small_more [] z small below (suc k) = omega arith
+small_more (y ∷ ys) z small below zero = below 0
+small_more (y ∷ ys) z small below (suc k) = small_more ys z small (λ i. below (suc i)) k
 
 pub length_sizes : (es : List Sequence) → length (sizes es) ≡ length es
 unfolding sizes
 length_sizes es = length_grow size_over [] es ∙ omega arith
+
+pub as_many_sizes : (t : Sequences) → length (rows_of t.sizes) ≡ length (rows_of t.entries)
+as_many_sizes t = ap length t.measured ∙ length_sizes (rows_of t.entries)
 
 -- the size that stands at a place is that of the sequence there
 pub sizes_nth : (es : List Sequence) (i z : ℕ) → slice_get (sizes es) i ≡ Some z

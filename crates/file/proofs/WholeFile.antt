@@ -1,7 +1,7 @@
 -- The questions to a whole file, section by section, and the tables that its entries fill.
-use Rattle.std.proofs.Common.{◌≡◌, ℕ, zero, suc, ◌+◌, ◌*◌, ◌≤◌, true, false, List, [], ◌∷◌, ◌++◌, length, take, drop, Some, None, Ok, sym, refl, ap, ◌∙◌, ap₂, arith, length-drop}
+use Rattle.std.proofs.Common.{◌≡◌, ℕ, zero, suc, ◌+◌, ◌*◌, true, false, List, [], ◌∷◌, ◌++◌, length, take, drop, Some, None, Ok, Err, Result, sym, refl, ap, ◌∙◌, ap₂, arith, length-drop}
 use mathlib.Core.Option.{Option, none, some}
-use Rattle.std.proofs.lemmas.List.{take_rest, length-take-le}
+use Rattle.std.proofs.lemmas.List.{take_rest}
 use Rattle.std.proofs.lemmas.Bool.{and_from}
 use Rattle.std.specs.declared.option.Option as std
 use Rattle.answer.specs.Questions.{Question, ◌otherwise◌, first_no}
@@ -9,9 +9,14 @@ use Rattle.answer.proofs.FirstNo.{pass, stop, both_pass}
 use Rattle.file.specs.declared.refusal.Refusal.{Refusal}
 use Rattle.file.specs.declared.refusal.Reason.{Reason}
 use Rattle.file.specs.declared.refusal.Section.{Section}
-use Rattle.file.specs.declared.refusal.Section.TheVariants.{Conditions, Sequences, Formulas}
+use Rattle.file.specs.declared.refusal.Section.TheVariants.{Conditions, Sequences as Sequences', Formulas as Formulas'}
+use Rattle.file.specs.declared.sequences.Sequences.{Sequences}
+use Rattle.file.specs.declared.formulas.Formulas.{Formulas}
+use Rattle.psl.specs.declared.entry.Condition.{Condition}
+use Rattle.table.specs.declared.table.Table.{Table}
+use Rattle.table.specs.Rows.{rows_of}
 use Rattle.file.specs.declared.tables.Counts.{Counts}
-use Rattle.file.specs.Kinds.{Raw}
+use Rattle.file.specs.declared.raw.Raw.{Raw}
 use Rattle.file.specs.Rules.{Rules, about_entry, condition_rules, sequence_rules, formula_rules}
 use Rattle.file.specs.File.{count_at, second, third, raws, entries_at, located, listed, spelled, about_entries, about_layout, about_conditions, about_sequences, about_formulas, conditions_in, sequences_in, formulas_in, questions}
 use Rattle.file.specs.Filling.{Fills}
@@ -60,48 +65,64 @@ Agree a b = (a.0 ≡ b.0) × (b.1 ≡ a.1)
 agree : {E : Type 0} {a b : Option Refusal × List E} → a ≡ b → Agree a b
 agree e = (ap (λ o. o.0) e, ap (λ o. o.1) (sym e))
 
+-- what comes of filling a table from a section's bytes: it was read from the section, or the first no to it
+abbrev pub ReadsSection : {T E : Type 0} → List (Question Refusal) → Rules E → List E → (T → List E) → ℕ → Result T Refusal → Type 0
+ReadsSection asked rules spells filled m (Ok t) = SectionRead asked rules spells (filled t) m
+ReadsSection asked rules spells filled m (Err r) = first_no asked ≡ some r
+
+module _ {T E : Type 0} (asked : List (Question Refusal)) (spells : List E) (rules : Rules E) (rules_of : T → Rules E) (filled : T → List E) (s : Section) (o m : ℕ) (part : List ℕ) (before : T)
+    (fits : rules_of before ≡ rules) (empty : filled before ≡ []) (same : Agree (first_no asked, spells) (outcome rules s o (raws part))) (whole : length part ≡ 5 * m) where
+  section_filled : (r : Result T Refusal) → Fills rules_of filled s o before (raws part) r → ReadsSection asked rules spells filled m r
+  section_filled (Err r) no_is = same.0 ∙ ap₂ (λ rs es. first_no (about_entries rs s o es (raws part))) (sym fits) (sym empty) ∙ no_is
+  section_filled (Ok t) (no_no, holds, stays) =
+      let none_is = ap₂ (λ rs es. first_no (about_entries rs s o es (raws part))) (sym fits) (sym empty) ∙ no_no in
+      let (all, fine) = all_taken rules s o [] (raws part) none_is in
+      let used : filled t ≡ spelled rules (raws part) = holds ∙ ap₂ (λ rs es. es ++ spelled rs (raws part)) fits empty in
+      record {
+        no_no = same.0 ∙ none_is;
+        counted = ap length used ∙ all ∙ raws_length m part whole;
+        holds = used ∙ same.1;
+        fine = ap (inspected rules []) used ∙ fine;
+      }
+
 -- what comes of the bytes that the reader cuts out comes of the section where it stands
 module _ (bytes : List ℕ) (n : Counts) (laid : LaidOut bytes n) (part : List ℕ) where
   entries_are : (o m p : ℕ) → part ≡ take (5 * m) (drop (o + 2) bytes) → m ≡ count_at bytes p → o ≡ p → raws part ≡ entries_at bytes p
   unfolding entries_at
   entries_are o m p is m_is o_is = ap raws (is ∙ ap₂ (λ k q. take (5 * k) (drop (q + 2) bytes)) m_is o_is)
 
-  pub of_conditions : part ≡ take (5 * n.conditions) (drop 2 bytes)
-      → Agree (first_no (about_conditions bytes), conditions_in bytes) (outcome condition_rules Conditions 2 (raws part))
+  pub conditions_filled : (t : Table Condition 64) → rows_of t ≡ [] → part ≡ take (5 * n.conditions) (drop 2 bytes) → length part ≡ 5 * n.conditions
+      → (r : Result (Table Condition 64) Refusal) → Fills (λ _. condition_rules) rows_of Conditions 2 t (raws part) r
+      → ReadsSection (about_conditions bytes) condition_rules (conditions_in bytes) rows_of n.conditions r
   unfolding about_conditions
-  of_conditions is = agree (ap (outcome condition_rules Conditions 2) (sym (entries_are 0 n.conditions 0 is laid.conditions refl)))
+  conditions_filled t empty is whole =
+      section_filled (about_conditions bytes) (conditions_in bytes) condition_rules (λ _. condition_rules) rows_of Conditions 2 n.conditions part t refl empty
+      (agree (ap (outcome condition_rules Conditions 2) (sym (entries_are 0 n.conditions 0 is laid.conditions refl)))) whole
 
-  pub of_sequences : part ≡ take (5 * n.sequences) (drop (2 + 5 * n.conditions + 2) bytes)
-      → Agree (first_no (about_sequences bytes), sequences_in bytes) (outcome (sequence_rules n.conditions) Sequences (2 + 5 * n.conditions + 2) (raws part))
+  pub sequences_filled : (t : Sequences) → t.conditions ≡ n.conditions → rows_of t.entries ≡ []
+      → part ≡ take (5 * n.sequences) (drop (2 + 5 * n.conditions + 2) bytes) → length part ≡ 5 * n.sequences
+      → (r : Result Sequences Refusal) → Fills (λ t. sequence_rules t.conditions) (λ t. rows_of t.entries) Sequences' (2 + 5 * n.conditions + 2) t (raws part) r
+      → ReadsSection (about_sequences bytes) (sequence_rules n.conditions) (sequences_in bytes) (λ t. rows_of t.entries) n.sequences r
   unfolding about_sequences
-  of_sequences is =
+  sequences_filled t after empty is whole =
       let second_is = ap (λ k. 2 + 5 * k) laid.conditions in
-      agree (ap (outcome _ Sequences (second bytes + 2)) (sym (entries_are (2 + 5 * n.conditions) n.sequences (second bytes) is laid.sequences second_is))
-      ∙ ap (λ k. outcome (sequence_rules k) Sequences (2 + 5 * k + 2) (raws part)) (sym laid.conditions))
+      section_filled (about_sequences bytes) (sequences_in bytes) (sequence_rules n.conditions) (λ t. sequence_rules t.conditions) (λ t. rows_of t.entries) Sequences'
+      (2 + 5 * n.conditions + 2) n.sequences part t (ap sequence_rules after) empty
+      (agree (ap (outcome _ Sequences' (second bytes + 2)) (sym (entries_are (2 + 5 * n.conditions) n.sequences (second bytes) is laid.sequences second_is))
+      ∙ ap (λ k. outcome (sequence_rules k) Sequences' (2 + 5 * k + 2) (raws part)) (sym laid.conditions))) whole
 
-  pub of_formulas : part ≡ take (5 * n.formulas) (drop (2 + 5 * n.conditions + 2 + 5 * n.sequences + 2) bytes)
-      → Agree (first_no (about_formulas bytes), formulas_in bytes)
-      (outcome (formula_rules n.conditions n.sequences) Formulas (2 + 5 * n.conditions + 2 + 5 * n.sequences + 2) (raws part))
+  pub formulas_filled : (t : Formulas) → t.conditions ≡ n.conditions → t.sequences ≡ n.sequences → rows_of t.entries ≡ []
+      → part ≡ take (5 * n.formulas) (drop (2 + 5 * n.conditions + 2 + 5 * n.sequences + 2) bytes) → length part ≡ 5 * n.formulas
+      → (r : Result Formulas Refusal)
+      → Fills (λ t. formula_rules t.conditions t.sequences) (λ t. rows_of t.entries) Formulas' (2 + 5 * n.conditions + 2 + 5 * n.sequences + 2) t (raws part) r
+      → ReadsSection (about_formulas bytes) (formula_rules n.conditions n.sequences) (formulas_in bytes) (λ t. rows_of t.entries) n.formulas r
   unfolding about_formulas
-  of_formulas is =
+  formulas_filled t after after' empty is whole =
       let third_is = ap₂ (λ k l. 2 + 5 * k + 2 + 5 * l) laid.conditions laid.sequences in
-      agree (ap (outcome _ Formulas (third bytes + 2)) (sym (entries_are (2 + 5 * n.conditions + 2 + 5 * n.sequences) n.formulas (third bytes) is laid.formulas third_is))
-      ∙ ap₂ (λ k l. outcome (formula_rules k l) Formulas (2 + 5 * k + 2 + 5 * l + 2) (raws part)) (sym laid.conditions) (sym laid.sequences))
-
--- a table that was filled from a section's bytes was read from the section
-pub section_read : {E : Type 0} (asked : List (Question Refusal)) (spells : List E) (rules rules' : Rules E) (s : Section) (o m : ℕ) (part : List ℕ) (t : List E) (count : ℕ)
-    → count ≤ 64 → length t ≡ 64 → length part ≡ 5 * m → Agree (first_no asked, spells) (outcome rules s o (raws part))
-    → Fills rules s o [] (raws part) (Ok (tt {0})) rules' (take count t) → SectionRead asked rules spells t count m
-section_read asked spells rules rules' s o m part t count few long whole (same_no, same_entries) (none_is, holds, stays) =
-    let (all, fine) = all_taken rules s o [] (raws part) none_is in
-    let counted : count ≡ m = sym (length-take-le count t (omega arith)) ∙ ap length holds ∙ all ∙ raws_length m part whole in
-    let used : take m t ≡ spelled rules (raws part) = ap (λ k. take k t) (sym counted) ∙ holds in
-    record {
-      no_no = same_no ∙ none_is;
-      counted = counted;
-      holds = used ∙ same_entries;
-      fine = ap (inspected rules []) used ∙ fine;
-    }
+      section_filled (about_formulas bytes) (formulas_in bytes) (formula_rules n.conditions n.sequences) (λ t. formula_rules t.conditions t.sequences) (λ t. rows_of t.entries) Formulas'
+      (2 + 5 * n.conditions + 2 + 5 * n.sequences + 2) n.formulas part t (ap₂ formula_rules after after') empty
+      (agree (ap (outcome _ Formulas' (third bytes + 2)) (sym (entries_are (2 + 5 * n.conditions + 2 + 5 * n.sequences) n.formulas (third bytes) is laid.formulas third_is))
+      ∙ ap₂ (λ k l. outcome (formula_rules k l) Formulas' (2 + 5 * k + 2 + 5 * l + 2) (raws part)) (sym laid.conditions) (sym laid.sequences))) whole
 
 -- the first no to a file is that of its first part with a no
 module _ (bytes : List ℕ) where

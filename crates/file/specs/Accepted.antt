@@ -1,10 +1,11 @@
 -- The tables of an accepted property.
-use Rattle.std.specs.Prelude.{◌≡◌, ℕ, Bool, true, ◌&&◌, List, [], ◌∷◌, ◌++◌, length, take, Ok, Err, Result, nat_le}
+use Rattle.std.specs.Prelude.{◌≡◌, ℕ, Bool, true, ◌&&◌, List, [], ◌∷◌, ◌++◌, length, Ok, Err, Result, nat_le}
 use Rattle.std.proofs.Math.Option.{none, some}
 use Rattle.answer.specs.Questions.{Question, ◌otherwise◌, first_no}
 use Rattle.psl.specs.declared.entry.Condition.{Condition}
 use Rattle.psl.specs.declared.entry.Sequence.{Sequence}
 use Rattle.psl.specs.declared.entry.Formula.{Formula}
+use Rattle.table.specs.Rows.{rows_of}
 use Rattle.file.specs.declared.refusal.Refusal.{Refusal}
 use Rattle.file.specs.declared.tables.Tables.{Tables}
 use Rattle.file.specs.Rules.{Rules, condition_rules, sequence_rules, formula_rules}
@@ -23,42 +24,38 @@ inspected rules before (e ∷ es) = all_yes (rules.about before e) && inspected 
 
 -- the entries in use
 abbrev pub conditions_used : Tables → List Condition
-conditions_used t = take t.counts.conditions t.conditions
+conditions_used t = rows_of t.conditions
 
 abbrev pub sequences_used : Tables → List Sequence
-sequences_used t = take t.counts.sequences t.sequences
+sequences_used t = rows_of t.sequences
 
 abbrev pub formulas_used : Tables → List Formula
-formulas_used t = take t.counts.formulas t.formulas
+formulas_used t = rows_of t.formulas
 
 -- the counts lie within their limits
 abbrev pub within_limits : Tables → Bool
 within_limits t =
-    (nat_le 1 t.counts.conditions && nat_le t.counts.conditions 64)
-    && (nat_le t.counts.sequences 64 && (nat_le 1 t.counts.formulas && nat_le t.counts.formulas 64))
+    (nat_le 1 (length (conditions_used t)) && nat_le (length (conditions_used t)) 64)
+    && (nat_le (length (sequences_used t)) 64 && (nat_le 1 (length (formulas_used t)) && nat_le (length (formulas_used t)) 64))
 
 -- the tables are those of an accepted property
 unfoldable pub accepted : Tables → Bool
 accepted t =
     within_limits t
     && (inspected condition_rules [] (conditions_used t)
-    && (inspected (sequence_rules t.counts.conditions) [] (sequences_used t)
-    && inspected (formula_rules t.counts.conditions t.counts.sequences) [] (formulas_used t)))
+    && (inspected (sequence_rules (length (conditions_used t))) [] (sequences_used t)
+    && inspected (formula_rules (length (conditions_used t)) (length (sequences_used t))) [] (formulas_used t)))
 
 -- the sizes beside the sequences are theirs
 abbrev pub Measured : Tables → Type 0
-Measured t = take t.counts.sequences t.sizes ≡ sizes (sequences_used t)
+Measured t = rows_of t.sizes ≡ sizes (sequences_used t)
 
--- each table has 64 rows
-abbrev pub Long : Tables → Type 0
-Long t = (length t.conditions ≡ 64) × (length t.sequences ≡ 64) × (length t.sizes ≡ 64) × (length t.formulas ≡ 64)
-
--- a section was read into the table t: no no to its questions, its n entries stand in the table, and each gets only yes
-pub record SectionRead {E : Type 0} (asked : List (Question Refusal)) (rules : Rules E) (spells t : List E) (count n : ℕ) : Type 0 where
+-- a section was read into a table, which holds es: no no to its questions, it spells these n entries, and each gets only yes
+pub record SectionRead {E : Type 0} (asked : List (Question Refusal)) (rules : Rules E) (spells es : List E) (n : ℕ) : Type 0 where
   pub no_no : first_no asked ≡ none
-  pub counted : count ≡ n
-  pub holds : take n t ≡ spells
-  pub fine : inspected rules [] (take n t) ≡ true
+  pub counted : length es ≡ n
+  pub holds : es ≡ spells
+  pub fine : inspected rules [] es ≡ true
 
 -- the tables hold the entries that the file spells, and are those of an accepted property
 pub record Spelled (bytes : List ℕ) (t : Tables) : Type 0 where
@@ -67,7 +64,6 @@ pub record Spelled (bytes : List ℕ) (t : Tables) : Type 0 where
   pub formulas : formulas_used t ≡ formulas_in bytes
   pub accepts : accepted t ≡ true
   pub measured : Measured t
-  pub long : Long t
 
 -- no no to the file and its tables, or the first no
 abbrev pub Reads : List ℕ → Result Tables Refusal → Type 0

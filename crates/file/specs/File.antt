@@ -10,7 +10,8 @@ use Rattle.file.specs.declared.refusal.Section.TheVariants.{Conditions, Sequence
 use Rattle.file.specs.declared.refusal.Reason.{Reason}
 use Rattle.file.specs.declared.refusal.Reason.TheVariants.{CountCutShort, CountOutsideLimits, EntriesCutShort, BytesLeftOver}
 use Rattle.file.specs.Refusals.{least_count}
-use Rattle.file.specs.Kinds.{Raw, raw, wide_number}
+use Rattle.file.specs.declared.raw.Raw.{Raw}
+use Rattle.file.specs.Kinds.{raw, wide_number}
 use Rattle.file.specs.Rules.{Rules, about_entry, condition_rules, sequence_rules, formula_rules}
 
 abbrev pub refusal : Section → ℕ → Reason → Refusal

@@ -1,5 +1,6 @@
 -- How the five bytes of an entry spell it: its kind, operand A and operand B.
 use Rattle.std.specs.Prelude.{ℕ, ◌+◌, ◌*◌, cond, ◌&&◌, List, [], ◌∷◌, Some, None, Option, ◌==◌, slice_index_or}
+use Rattle.file.specs.declared.raw.Raw.{Raw}
 use Rattle.psl.specs.declared.entry.Condition.{Condition}
 use Rattle.psl.specs.declared.entry.Condition.TheVariants as c
 use Rattle.psl.specs.declared.entry.Sequence.{Sequence}
@@ -8,11 +9,6 @@ use Rattle.psl.specs.declared.entry.Formula.{Formula}
 use Rattle.psl.specs.declared.entry.Formula.TheVariants as f
 
 -- an entry as it stands in the file
-pub record Raw : Type 0 where
-  pub kind : ℕ
-  pub a : ℕ
-  pub b : ℕ
-
 abbrev pub raw : ℕ → ℕ → ℕ → Raw
 raw kind a b = record { kind = kind; a = a; b = b }
 

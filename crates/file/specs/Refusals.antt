@@ -1,5 +1,6 @@
--- Why a property file is refused: the number of each reason, and of each section.
-use Rattle.std.specs.Prelude.{ℕ}
+-- Why a property file is refused: the number of each reason and of each section, and how a refusal is written.
+use Rattle.std.specs.Prelude.{ℕ, List, ◌++◌, codes, decimal}
+use Rattle.file.specs.declared.refusal.Refusal.{Refusal}
 use Rattle.file.specs.declared.refusal.Reason.{Reason}
 use Rattle.file.specs.declared.refusal.Reason.TheVariants.{CountCutShort, CountOutsideLimits, EntriesCutShort, BytesLeftOver, KindNotListed, OperandNamesNothing, FirstNotTrue, SequenceTooLarge}
 use Rattle.file.specs.declared.refusal.Section.{Section}
@@ -21,6 +22,14 @@ abbrev pub section_number : Section → ℕ
 section_number Conditions = 1
 section_number Sequences = 2
 section_number Formulas = 3
+
+-- three numbers with spaces between
+abbrev pub numbers_text : ℕ → ℕ → ℕ → List ℕ
+numbers_text n s o = decimal n ++ (codes " " ++ (decimal s ++ (codes " " ++ decimal o)))
+
+-- a refusal is written as its number, its section's and its offset
+abbrev pub refusal_text : Refusal → List ℕ
+refusal_text r = numbers_text (reason_number r.reason) (section_number r.section) r.offset
 
 -- the least number of entries of a section
 abbrev pub least_count : Section → ℕ

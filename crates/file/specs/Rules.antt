@@ -1,5 +1,5 @@
 -- The questions put to an entry: what its section asks of it, over the entries before it.
-use Rattle.std.specs.Prelude.{◌≡◌, ℕ, ◌≤◌, false, ◌||◌, List, [], ◌∷◌, length, Some, None, Ok, Err, Option, Result, nat_le, nat_lt}
+use Rattle.std.specs.Prelude.{◌≡◌, ℕ, Bool, false, ◌||◌, List, [], ◌∷◌, ◌++◌, length, Some, None, Ok, Err, Option, Result, nat_le, nat_lt}
 use Rattle.std.proofs.Math.Option.{none, some}
 use Rattle.answer.specs.Questions.{Question, ◌otherwise◌, first_no}
 use Rattle.psl.specs.declared.entry.Condition.{Condition}
@@ -7,7 +7,8 @@ use Rattle.psl.specs.declared.entry.Sequence.{Sequence}
 use Rattle.psl.specs.declared.entry.Formula.{Formula}
 use Rattle.file.specs.declared.refusal.Reason.{Reason}
 use Rattle.file.specs.declared.refusal.Reason.TheVariants.{KindNotListed, OperandNamesNothing, FirstNotTrue, SequenceTooLarge}
-use Rattle.file.specs.Kinds.{Raw, condition_spelled, sequence_spelled, formula_spelled}
+use Rattle.file.specs.declared.raw.Raw.{Raw}
+use Rattle.file.specs.Kinds.{condition_spelled, sequence_spelled, formula_spelled}
 use Rattle.file.specs.Operands.{condition_names, sequence_names, formula_names, is_true}
 use Rattle.file.specs.Sizes.{size_over, sizes}
 
@@ -16,18 +17,22 @@ pub record Rules (E : Type 0) : Type 0 where
   pub spelled : Raw → Option E
   pub about : List E → E → List (Question Reason)
 
+-- an entry names what it may
+abbrev pub about_names : {E : Type 0} → (E → Bool) → E → List (Question Reason)
+about_names names e = (names e otherwise OperandNamesNothing) ∷ []
+
 -- condition i names what it may, and the first is true
 abbrev pub about_condition : ℕ → Condition → List (Question Reason)
-about_condition i e = (condition_names i e otherwise OperandNamesNothing) ∷ ((nat_lt 0 i || is_true e) otherwise FirstNotTrue) ∷ []
+about_condition i e = about_names (condition_names i) e ++ (((nat_lt 0 i || is_true e) otherwise FirstNotTrue) ∷ [])
 
 -- a sequence after sequences of these sizes names what it may, and its size is at most 240
 abbrev pub about_sequence : ℕ → List ℕ → Sequence → List (Question Reason)
 about_sequence n before e =
-    (sequence_names n (length before) e otherwise OperandNamesNothing) ∷ (nat_le (size_over before e) 240 otherwise SequenceTooLarge) ∷ []
+    about_names (sequence_names n (length before)) e ++ ((nat_le (size_over before e) 240 otherwise SequenceTooLarge) ∷ [])
 
 -- formula i names what it may
 abbrev pub about_formula : ℕ → ℕ → ℕ → Formula → List (Question Reason)
-about_formula n m i e = (formula_names n m i e otherwise OperandNamesNothing) ∷ []
+about_formula n m i = about_names (formula_names n m i)
 
 -- the rules of the three sections, after n conditions and m sequences
 abbrev pub condition_rules : Rules Condition
@@ -48,9 +53,3 @@ about_entry (Some e) about = about e
 abbrev pub Answered : {E : Type 0} → Option E → (E → List (Question Reason)) → Result E Reason → Type 0
 Answered spelled about (Ok e) = (spelled ≡ Some e) × (first_no (about e) ≡ none)
 Answered spelled about (Err f) = first_no (about_entry spelled about) ≡ some f
-
--- the same of a sequence, with its size
-abbrev pub Measures : ℕ → Option Sequence → List ℕ → Result (Sequence × ℕ) Reason → Type 0
-Measures n spelled before (Ok (e, z)) =
-    (spelled ≡ Some e) × (first_no (about_sequence n before e) ≡ none) × (z ≡ size_over before e) × (z ≤ 240)
-Measures n spelled before (Err f) = first_no (about_entry spelled (about_sequence n before)) ≡ some f

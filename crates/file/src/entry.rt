@@ -1,71 +1,35 @@
-// One entry of each section: it is taken, or the first no to it.
-ghost use Rattle.std.specs.Prelude.{◌≡◌, ℕ, ◌<◌, ◌≤◌, List, length, take, slice_index};
-ghost use Rattle.file.specs.Kinds.{raw, condition_spelled, sequence_spelled, formula_spelled};
-ghost use Rattle.file.specs.Rules.{Answered, Measures, about_condition, about_sequence, about_formula};
+// What the entries of the three sections have in common: each is spelled by five bytes and names what stands before it.
+ghost use Rattle.std.specs.Prelude.{◌≡◌, Bool, Option};
+ghost use Rattle.file.specs.declared.raw.Raw.{Raw};
+ghost use Rattle.file.specs.declared.tables.Counts.{Counts};
+ghost use Rattle.file.specs.Rules.{Answered, about_names};
 
-use crate::operand::{
-    condition_names_below, formula_names_below, is_kind_true, sequence_names_below, size_after,
-};
+use crate::raw::Raw;
 use crate::refusal::Reason;
-use crate::spell::{spell_condition, spell_formula, spell_sequence};
-use psl::entry::{Condition, Formula, Sequence};
+use crate::tables::Counts;
 
-pub(crate) fn read_condition(i: usize, kind: u8, a: u16, b: u16) -> Result<Condition, Reason>
-    ensures { Answered (condition_spelled (raw kind a b)) (about_condition i) result }
-{
-    let Some(e) = spell_condition(kind, a, b) else {
-        return Err(Reason::KindNotListed);
-    };
-    if !condition_names_below(i, e) {
-        return Err(Reason::OperandNamesNothing);
-    }
-    if i == 0 && !is_kind_true(e) {
-        return Err(Reason::FirstNotTrue);
-    }
-    Ok(e)
+pub(crate) trait Entry: Copy {
+    // The entry that is spelled, if its kind is listed and each unused operand is 0.
+    ghost spelled: { Raw → Option Self };
+
+    // Whether its operands name what they may, after so many entries of each section.
+    ghost names: { Counts → Self → Bool };
+
+    fn spell(raw: Raw) -> Option<Self>
+        ensures { result ≡ spelled raw };
+
+    fn names_before(self, before: Counts) -> bool
+        ensures { result ≡ names before self };
 }
 
-// The sequence, and its size over the sizes before it.
-pub(crate) fn read_sequence(
-    conditions: usize,
-    sizes: &[u16],
-    i: usize,
-    kind: u8,
-    a: u16,
-    b: u16,
-) -> Result<(Sequence, u16), Reason>
-    requires few { i ≤ length sizes.now }
-    requires small { (k : ℕ) → k < i → slice_index sizes.now k ≤ 240 }
-    ensures { Measures conditions (sequence_spelled (raw kind a b)) (take i sizes.now) result }
+// The entry that is spelled, if it names what it may.
+pub(crate) fn read_entry<E: Entry>(raw: Raw, before: Counts) -> Result<E, Reason>
+    ensures { Answered (E.Entry.spelled raw) (about_names (E.Entry.names before)) result }
 {
-    let Some(e) = spell_sequence(kind, a, b) else {
-        return Err(Reason::KindNotListed);
-    };
-    if !sequence_names_below(conditions, i, e) {
-        return Err(Reason::OperandNamesNothing);
+    let entry = E::spell(raw).ok_or(Reason::KindNotListed)?;
+    if entry.names_before(before) {
+        Ok(entry)
+    } else {
+        Err(Reason::OperandNamesNothing)
     }
-    let size = size_after(sizes, conditions, i, e);
-    if size > 240 {
-        return Err(Reason::SequenceTooLarge);
-    }
-    Ok((e, size))
-}
-
-pub(crate) fn read_formula(
-    conditions: usize,
-    sequences: usize,
-    i: usize,
-    kind: u8,
-    a: u16,
-    b: u16,
-) -> Result<Formula, Reason>
-    ensures { Answered (formula_spelled (raw kind a b)) (about_formula conditions sequences i) result }
-{
-    let Some(e) = spell_formula(kind, a, b) else {
-        return Err(Reason::KindNotListed);
-    };
-    if !formula_names_below(conditions, sequences, i, e) {
-        return Err(Reason::OperandNamesNothing);
-    }
-    Ok(e)
 }

@@ -1,15 +1,14 @@
 // Reading the entries of a section into its table, whichever section it is.
 ghost use Rattle.std.specs.Prelude.{◌≡◌, ℕ, ◌+◌, ◌*◌, ◌<◌, ◌≤◌, List, length};
-ghost use Rattle.file.specs.Kinds.{raw};
 ghost use Rattle.file.specs.Rules.{Rules};
 ghost use Rattle.file.specs.File.{raws};
 ghost use Rattle.file.specs.Filling.{Takes, Fills};
 
+use crate::raw::{Raw, wide};
 use crate::refusal::{Reason, Refusal, Section};
-use crate::spell::wide;
 
 // A section's table, to which entries are added one by one.
-pub(crate) trait Filling {
+pub(crate) trait Filling: Copy {
     type Entry;
 
     ghost rules: { Self → Rules Self.Entry };
@@ -17,26 +16,33 @@ pub(crate) trait Filling {
     ghost filled: { Self → List Self.Entry };
 
     // Takes the next entry, or says the first no to it.
-    fn take_entry(&mut self, kind: u8, a: u16, b: u16) -> Result<(), Reason>
+    fn take_entry(&mut self, raw: Raw) -> Result<(), Reason>
         requires { length (filled self.old) < 64 }
-        ensures { Takes (rules self.old) (filled self.old) (raw kind a b) result (rules self.new) (filled self.new) };
+        ensures { Takes (rules self.old) (filled self.old) raw result (rules self.new) (filled self.new) };
 }
 
-// Takes the entries that `part` spells, the first at the offset `at`.
+// The table with the entries that `part` spells, the first at the offset `at`.
 pub(crate) fn fill<F: Filling>(
     part: &[u8],
     section: Section,
     at: usize,
-    table: &mut F,
-) -> Result<(), Refusal>
-    requires room { 5 * length (F.Filling.filled table.old) + length part.now ≤ 320 }
+    table: F,
+) -> Result<F, Refusal>
+    requires room { 5 * length (F.Filling.filled table) + length part.now ≤ 320 }
     requires near { at ≤ 1000 }
-    ensures { Fills (F.Filling.rules table.old) section at (F.Filling.filled table.old) (raws part.now) result (F.Filling.rules table.new) (F.Filling.filled table.new) }
+    ensures { Fills F.Filling.rules F.Filling.filled section at table (raws part.now) result }
 {
+    let mut table = table;
     let mut rest = part;
     let mut offset = at;
+    // Stays: a rule of the project has an entry read by a pattern that names its five bytes, with the later entries as the rest.
     while let [kind, a1, a0, b1, b0, tail @ ..] = rest {
-        match table.take_entry(*kind, wide(*a1, *a0), wide(*b1, *b0)) {
+        let raw = Raw {
+            kind: *kind,
+            a: wide(*a1, *a0),
+            b: wide(*b1, *b0),
+        };
+        match table.take_entry(raw) {
             Ok(_) => offset += 5,
             Err(reason) => return Err(Refusal {
                 reason,
@@ -46,5 +52,5 @@ pub(crate) fn fill<F: Filling>(
         }
         rest = tail;
     }
-    Ok(())
+    Ok(table)
 }

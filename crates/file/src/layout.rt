@@ -3,8 +3,8 @@ ghost use Rattle.std.specs.Prelude.{◌≡◌, ◌+◌, ◌*◌, ◌≤◌, leng
 ghost use Rattle.file.specs.Refusals.{least_count};
 ghost use Rattle.file.specs.Layout.{CountsSection, LaysOut};
 
+use crate::raw::wide;
 use crate::refusal::{Reason, Refusal, Section};
-use crate::spell::wide;
 use crate::tables::Counts;
 
 // The least number of entries that a section has.

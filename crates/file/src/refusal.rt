@@ -1,63 +1,66 @@
 // Why a property file is refused, and where.
-ghost use Rattle.std.specs.Prelude.{◌≡◌};
+ghost use Rattle.std.specs.Prelude.{◌≡◌, Some};
 ghost use Rattle.file.specs.Refusals.{reason_number, section_number};
 
-// The question that got a no.
-#[derive(Clone, Copy)]
+use std::error::Error;
+use std::fmt;
+
+// The question that got a no, with its number as documented.
+#[derive(Clone, Copy, Debug, PartialEq, Eq)]
 pub enum Reason {
-    CountCutShort,
-    CountOutsideLimits,
-    EntriesCutShort,
-    BytesLeftOver,
-    KindNotListed,
-    OperandNamesNothing,
-    FirstNotTrue,
-    SequenceTooLarge,
+    CountCutShort = 1,
+    CountOutsideLimits = 2,
+    EntriesCutShort = 3,
+    BytesLeftOver = 4,
+    KindNotListed = 5,
+    OperandNamesNothing = 6,
+    FirstNotTrue = 7,
+    SequenceTooLarge = 8,
 }
 
 impl Reason {
-    // The number of the question, as documented.
     pub fn number(self) -> u8
         ensures { result ≡ reason_number self }
     {
-        match self {
-            Reason::CountCutShort => 1,
-            Reason::CountOutsideLimits => 2,
-            Reason::EntriesCutShort => 3,
-            Reason::BytesLeftOver => 4,
-            Reason::KindNotListed => 5,
-            Reason::OperandNamesNothing => 6,
-            Reason::FirstNotTrue => 7,
-            Reason::SequenceTooLarge => 8,
-        }
+        self as u8
     }
 }
 
-// A section of a property file.
-#[derive(Clone, Copy)]
+// A section of a property file, with its number in the file's order.
+#[derive(Clone, Copy, Debug, PartialEq, Eq)]
 pub enum Section {
-    Conditions,
-    Sequences,
-    Formulas,
+    Conditions = 1,
+    Sequences = 2,
+    Formulas = 3,
 }
 
 impl Section {
-    // Its number in the file's order, from 1.
     pub fn number(self) -> u8
         ensures { result ≡ section_number self }
     {
-        match self {
-            Section::Conditions => 1,
-            Section::Sequences => 2,
-            Section::Formulas => 3,
-        }
+        self as u8
     }
 }
 
 // The first no: its question, the section it concerns, and the offset of the count, entry or byte in question.
-#[derive(Clone, Copy)]
+#[derive(Clone, Copy, Debug, PartialEq, Eq)]
 pub struct Refusal {
     pub reason: Reason,
     pub section: Section,
     pub offset: usize,
 }
+
+impl fmt::Display for Refusal {
+    ghost use Rattle.file.specs.Refusals.{refusal_text};
+
+    ghost output = { λ r. Some (refusal_text r) };
+
+    fn fmt<W: fmt::Write>(&self, f: &mut fmt::Formatter<W>) -> fmt::Result {
+        let reason = self.reason.number();
+        let section = self.section.number();
+        let offset = self.offset;
+        write!(f, "{reason} {section} {offset}")
+    }
+}
+
+impl Error for Refusal {}

@@ -1,20 +1,21 @@
 // The plain tables of a property.
 use psl::entry::{Condition, Formula, Sequence};
+use table::table::Table;
 
-// How many entries of each table are in use.
+// How many entries of each section there are.
 #[derive(Clone, Copy)]
-pub struct Counts {
-    pub conditions: usize,
-    pub sequences: usize,
-    pub formulas: usize,
+pub(crate) struct Counts {
+    pub(crate) conditions: usize,
+    pub(crate) sequences: usize,
+    pub(crate) formulas: usize,
 }
 
 // The entries of a property, and beside each sequence its size.
+// Stays: a rule of the project lends the sequences as a slice of entries, so their sizes stand in a table of their own.
 #[derive(Clone, Copy)]
 pub struct Tables {
-    pub counts: Counts,
-    pub conditions: [Condition; 64],
-    pub sequences: [Sequence; 64],
-    pub sizes: [u16; 64],
-    pub formulas: [Formula; 64],
+    pub conditions: Table<Condition, 64>,
+    pub sequences: Table<Sequence, 64>,
+    pub sizes: Table<u16, 64>,
+    pub formulas: Table<Formula, 64>,
 }

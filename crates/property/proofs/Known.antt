@@ -1,7 +1,8 @@
 -- What is known of the entries of an accepted property.
-use Rattle.std.proofs.Common.{◌≡◌, ℕ, zero, suc, ◌<◌, ◌≤◌, true, ◌&&◌, List, [], ◌∷◌, ◌++◌, length, take, Some, subst, append_assoc, append-nil, arith}
+use Rattle.std.proofs.Common.{◌≡◌, ℕ, zero, suc, ◌≤◌, true, ◌&&◌, List, [], ◌∷◌, ◌++◌, length, take, Some, subst, append_assoc, append-nil, arith}
 use Rattle.std.proofs.lemmas.List.{length-take-le}
 use Rattle.std.proofs.lemmas.Bool.{and_parts, leb-true}
+use Rattle.std.proofs.lemmas.Option.{slice_get_within}
 use Rattle.std.specs.List.{slice_get}
 use Rattle.file.specs.declared.tables.Tables.{Tables}
 use Rattle.file.specs.Rules.{Rules, condition_rules, sequence_rules, formula_rules}
@@ -18,25 +19,20 @@ inspected_at rules before (x ∷ es) (suc k) e is fine =
     subst (λ xs. all_yes (rules.about xs e) ≡ true) (append_assoc before (x ∷ []) (take k es))
     (inspected_at rules (before ++ (x ∷ [])) es k e is (and_parts _ _ fine).1)
 
-pub nth_below : {E : Type 0} (es : List E) (k : ℕ) (e : E) → slice_get es k ≡ Some e → k < length es
-nth_below [] k e is = let wrong : ◌≡◌ {A = ℕ} 0 1 = cc in absurd (omega arith)
-nth_below (x ∷ es) zero e is = omega arith
-nth_below (x ∷ es) (suc k) e is = let h = nth_below es k e is in omega arith
-
 pub before_length : {E : Type 0} (es : List E) (k : ℕ) (e : E) → slice_get es k ≡ Some e → length (take k es) ≡ k
-before_length es k e is = let h = nth_below es k e is in length-take-le k es (omega arith)
+before_length es k e is = let h = slice_get_within es k e is in length-take-le k es (omega arith)
 
 pub record Limits (t : Tables) : Type 0 where
-  pub some_conditions : 1 ≤ t.counts.conditions
-  pub few_conditions : t.counts.conditions ≤ 64
-  pub few_sequences : t.counts.sequences ≤ 64
-  pub some_formulas : 1 ≤ t.counts.formulas
-  pub few_formulas : t.counts.formulas ≤ 64
+  pub some_conditions : 1 ≤ length (conditions_used t)
+  pub few_conditions : length (conditions_used t) ≤ 64
+  pub few_sequences : length (sequences_used t) ≤ 64
+  pub some_formulas : 1 ≤ length (formulas_used t)
+  pub few_formulas : length (formulas_used t) ≤ 64
 
 module _ (t : Tables) (ok : accepted t ≡ true) where
   parts : (within_limits t ≡ true) × ((inspected condition_rules [] (conditions_used t)
-      && (inspected (sequence_rules t.counts.conditions) [] (sequences_used t)
-      && inspected (formula_rules t.counts.conditions t.counts.sequences) [] (formulas_used t))) ≡ true)
+      && (inspected (sequence_rules (length (conditions_used t))) [] (sequences_used t)
+      && inspected (formula_rules (length (conditions_used t)) (length (sequences_used t))) [] (formulas_used t))) ≡ true)
   unfolding accepted
   parts = and_parts _ _ ok
 
@@ -57,8 +53,8 @@ module _ (t : Tables) (ok : accepted t ≡ true) where
   pub conditions_inspected : inspected condition_rules [] (conditions_used t) ≡ true
   conditions_inspected = (and_parts _ _ parts.1).0
 
-  pub sequences_inspected : inspected (sequence_rules t.counts.conditions) [] (sequences_used t) ≡ true
+  pub sequences_inspected : inspected (sequence_rules (length (conditions_used t))) [] (sequences_used t) ≡ true
   sequences_inspected = (and_parts _ _ (and_parts _ _ parts.1).1).0
 
-  pub formulas_inspected : inspected (formula_rules t.counts.conditions t.counts.sequences) [] (formulas_used t) ≡ true
-  formulas_inspected = (and_parts (inspected (sequence_rules t.counts.conditions) [] (sequences_used t)) _ (and_parts (inspected condition_rules [] (conditions_used t)) _ parts.1).1).1
+  pub formulas_inspected : inspected (formula_rules (length (conditions_used t)) (length (sequences_used t))) [] (formulas_used t) ≡ true
+  formulas_inspected = (and_parts (inspected (sequence_rules (length (conditions_used t))) [] (sequences_used t)) _ (and_parts (inspected condition_rules [] (conditions_used t)) _ parts.1).1).1

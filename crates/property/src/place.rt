@@ -1,6 +1,6 @@
 // The property place, which always holds an accepted property.
 ghost use Rattle.std.specs.Prelude.{◌≡◌, true};
-ghost use Rattle.file.specs.Accepted.{accepted, Measured, Long};
+ghost use Rattle.file.specs.Accepted.{accepted, Measured};
 
 use file::tables::Tables;
 
@@ -11,6 +11,5 @@ mod calls;
 pub struct Property {
     tables: Tables,
     ghost accepts: { accepted tables ≡ true },
-    ghost long: { Long tables },
     ghost measured: { Measured tables },
 }

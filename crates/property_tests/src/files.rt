@@ -13,9 +13,8 @@ pub const ON_TRUE: Row = [0, 0, 0, 0, 0];
 pub const WEAK: Row = [1, 0, 0, 0, 0];
 
 fn section(file: &mut Vec<u8>, rows: &[Row]) -> Result<(), AllocError> {
-    let count = rows.len();
-    file.push((count / 256 % 256) as u8)?;
-    file.push((count % 256) as u8)?;
+    let count = (rows.len() % 65536) as u16;
+    file.extend_from_slice(&count.to_be_bytes())?;
     for row in rows {
         file.extend_from_slice(row)?;
     }
@@ -36,22 +35,16 @@ fn file(
     Ok(bytes)
 }
 
-// What comes of reading: the number, section and offset of the refusal, or zeros.
-#[derive(Clone, Copy, PartialEq, Eq, Debug)]
-pub struct Outcome(pub u8, pub u8, pub usize);
-
-pub const ACCEPTED: Outcome = Outcome(0, 0, 0);
+// What comes of reading: the numbers of the refusal and its section, and its offset, if it is refused.
+pub type Outcome = Result<(), (u8, u8, usize)>;
 
 pub(crate) fn reading(bytes: &[u8]) -> Outcome {
     let mut property = Property::new();
-    match property.read(bytes) {
-        Ok(_) => ACCEPTED,
-        Err(refusal) => Outcome(
-            refusal.reason.number(),
-            refusal.section.number(),
-            refusal.offset,
-        ),
-    }
+    property.read(bytes).map_err(|refusal| (
+        refusal.reason.number(),
+        refusal.section.number(),
+        refusal.offset,
+    ))
 }
 
 // What comes of reading the file with these sections.

@@ -1,5 +1,5 @@
 // Counts at their limits, files cut short, and bytes left over.
-use crate::files::{ACCEPTED, ON_TRUE, Outcome, Row, TRUE, WEAK, reading, sections};
+use crate::files::{ON_TRUE, Outcome, Row, TRUE, WEAK, reading, sections};
 use std::test::Fail;
 
 // X! of an atom held strongly: counts at 0, 12 and 14.
@@ -10,12 +10,12 @@ const NEXT: [u8; 26] = [
 // The file cut before byte n.
 fn cut(n: usize) -> Outcome {
     match n {
-        0..=1 => Outcome(1, 1, 0),
-        2..=11 => Outcome(3, 1, 2),
-        12..=13 => Outcome(1, 2, 12),
-        14..=15 => Outcome(1, 3, 14),
-        16..=25 => Outcome(3, 3, 16),
-        _ => ACCEPTED,
+        0..=1 => Err((1, 1, 0)),
+        2..=11 => Err((3, 1, 2)),
+        12..=13 => Err((1, 2, 12)),
+        14..=15 => Err((1, 3, 14)),
+        16..=25 => Err((3, 3, 16)),
+        _ => Ok(()),
     }
 }
 
@@ -28,11 +28,11 @@ fn cut_at_every_byte(rt: HostRuntime) {
 
 #[test]
 fn sequences_cut_short(rt: HostRuntime) {
-    assert_eq!(rt; reading(&[0, 1, 0, 0, 0, 0, 0, 0]), Outcome(1, 2, 7));
-    assert_eq!(rt; reading(&[0, 1, 0, 0, 0, 0, 0, 0, 1]), Outcome(3, 2, 9));
+    assert_eq!(rt; reading(&[0, 1, 0, 0, 0, 0, 0, 0]), Err((1, 2, 7)));
+    assert_eq!(rt; reading(&[0, 1, 0, 0, 0, 0, 0, 0, 1]), Err((3, 2, 9)));
     assert_eq!(rt;
         reading(&[0, 1, 0, 0, 0, 0, 0, 0, 1, 0, 0, 0, 0]),
-        Outcome(3, 2, 9)
+        Err((3, 2, 9))
     );
 }
 
@@ -41,20 +41,20 @@ fn sequences_cut_short(rt: HostRuntime) {
 fn left_over_byte(rt: HostRuntime) {
     assert_eq!(rt;
         reading(&[0, 1, 0, 0, 0, 0, 0, 0, 0, 0, 1, 1, 0, 0, 0, 0, 0]),
-        Outcome(4, 3, 16)
+        Err((4, 3, 16))
     );
     assert_eq!(rt;
         reading(&[0, 1, 9, 0, 0, 0, 0, 0, 0, 0, 1, 1, 0, 0, 0, 0, 0]),
-        Outcome(4, 3, 16)
+        Err((4, 3, 16))
     );
 }
 
 #[test]
 fn least_counts(rt: HostRuntime) -> Result<(), Fail> {
-    assert_eq!(rt; sections(rt.alloc(), &[], &[], &[WEAK])?, Outcome(2, 1, 0));
-    assert_eq!(rt; sections(rt.alloc(), &[TRUE], &[], &[])?, Outcome(2, 3, 9));
-    assert_eq!(rt; sections(rt.alloc(), &[TRUE], &[], &[WEAK])?, ACCEPTED);
-    assert_eq!(rt; reading(&[1, 0]), Outcome(2, 1, 0));
+    assert_eq!(rt; sections(rt.alloc(), &[], &[], &[WEAK])?, Err((2, 1, 0)));
+    assert_eq!(rt; sections(rt.alloc(), &[TRUE], &[], &[])?, Err((2, 3, 9)));
+    assert_eq!(rt; sections(rt.alloc(), &[TRUE], &[], &[WEAK])?, Ok(()));
+    assert_eq!(rt; reading(&[1, 0]), Err((2, 1, 0)));
     Ok(())
 }
 
@@ -65,19 +65,13 @@ fn greatest_counts(rt: HostRuntime) -> Result<(), Fail> {
     let weaks: [Row; 65] = [WEAK; 65];
     assert_eq!(rt;
         sections(rt.alloc(), &trues[0..64], &sequences[0..64], &weaks[0..64])?,
-        ACCEPTED
+        Ok(())
     );
-    assert_eq!(rt;
-        sections(rt.alloc(), &trues, &[], &[WEAK])?,
-        Outcome(2, 1, 0)
-    );
+    assert_eq!(rt; sections(rt.alloc(), &trues, &[], &[WEAK])?, Err((2, 1, 0)));
     assert_eq!(rt;
         sections(rt.alloc(), &[TRUE], &sequences, &[WEAK])?,
-        Outcome(2, 2, 7)
+        Err((2, 2, 7))
     );
-    assert_eq!(rt;
-        sections(rt.alloc(), &[TRUE], &[], &weaks)?,
-        Outcome(2, 3, 9)
-    );
+    assert_eq!(rt; sections(rt.alloc(), &[TRUE], &[], &weaks)?, Err((2, 3, 9)));
     Ok(())
 }

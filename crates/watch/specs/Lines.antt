@@ -7,7 +7,7 @@ use Rattle.psl.specs.declared.entry.Formula.{Formula}
 use Rattle.psl.specs.declared.entry.Formula.TheVariants.{Strong, Weak, StrongSequence, WeakSequence, Not, And, Next, Until, Abort, Implies, At}
 use Rattle.file.specs.declared.refusal.Refusal.{Refusal}
 use Rattle.property.specs.declared.place.Property.{Property}
-use Rattle.file.specs.Refusals.{reason_number, section_number}
+use Rattle.file.specs.Refusals.{refusal_text}
 use Rattle.file.specs.File.{questions}
 use Rattle.property.specs.Place.{conditions_of, sequences_of, formulas_of, HoldsFile}
 
@@ -25,13 +25,9 @@ operator (Abort a b) = codes "f abort b"
 operator (Implies a b) = codes "r |-> f"
 operator (At a b) = codes "f @ c"
 
--- "file" and three numbers
-abbrev pub numbers_line : ℕ → ℕ → ℕ → List ℕ
-numbers_line n s o = codes "file " ++ (decimal n ++ (codes " " ++ (decimal s ++ (codes " " ++ decimal o))))
-
--- a refused file: the number of the refusal, the section and the offset
+-- a refused file: "file" and the refusal
 abbrev pub refused_line : Refusal → List ℕ
-refused_line r = numbers_line (reason_number r.reason) (section_number r.section) r.offset
+refused_line r = codes "file " ++ refusal_text r
 
 -- three counts and an operator
 abbrev pub counts_line : ℕ → ℕ → ℕ → List ℕ → List ℕ

@@ -1,8 +1,7 @@
 // The lines that are printed of a property file.
 ghost use Rattle.std.specs.Prelude.{◌≡◌, IfOk, string_bytes};
-ghost use Rattle.watch.specs.Lines.{operator as operator_of, numbers_line, refused_line, counts_line, AcceptedLine, LineOf};
+ghost use Rattle.watch.specs.Lines.{operator as operator_of, AcceptedLine, LineOf};
 
-use file::refusal::Refusal;
 use property::place::Property;
 use psl::entry::Formula;
 use std::alloc::{AllocError, Global};
@@ -26,47 +25,16 @@ fn operator_text(formula: Formula) -> &'static str
     }
 }
 
-fn write_numbers(heap: Global, number: u8, section: u8, offset: usize) -> Result<String, AllocError>
-    ensures { IfOk result (λ s. string_bytes s ≡ numbers_line number section offset) }
-{
-    format!(in heap; "file {number} {section} {offset}")
-}
-
-fn write_refusal(heap: Global, refusal: Refusal) -> Result<String, AllocError>
-    ensures { IfOk result (λ s. string_bytes s ≡ refused_line refusal) }
-{
-    write_numbers(
-        heap,
-        refusal.reason.number(),
-        refusal.section.number(),
-        refusal.offset,
-    )
-}
-
-fn write_counts(
-    heap: Global,
-    conditions: usize,
-    sequences: usize,
-    formulas: usize,
-    operator: &str,
-) -> Result<String, AllocError>
-    ensures { IfOk result (λ s. string_bytes s ≡ counts_line conditions sequences formulas operator.now) }
-{
-    format!(in heap;
-        "conditions {conditions}, sequences {sequences}, formulas {formulas}, property {operator}"
-    )
-}
-
-fn write_property(heap: Global, property: &Property) -> Result<String, AllocError>
+// The line for an accepted file.
+fn property_line(heap: Global, property: &Property) -> Result<String, AllocError>
     ensures { IfOk result (λ s. AcceptedLine property.now (string_bytes s)) }
 {
+    let conditions = property.condition_count();
+    let sequences = property.sequence_count();
+    let formulas = property.formula_count();
     let operator = operator_text(property.root());
-    write_counts(
-        heap,
-        property.condition_count(),
-        property.sequence_count(),
-        property.formula_count(),
-        operator,
+    format!(in heap;
+        "conditions {conditions}, sequences {sequences}, formulas {formulas}, property {operator}"
     )
 }
 
@@ -76,7 +44,7 @@ pub fn file_line(heap: Global, bytes: &[u8]) -> Result<String, AllocError>
 {
     let mut property = Property::new();
     match property.read(bytes) {
-        Ok(_) => write_property(heap, &property),
-        Err(refusal) => write_refusal(heap, refusal),
+        Ok(_) => property_line(heap, &property),
+        Err(refusal) => format!(in heap; "file {refusal}"),
     }
 }

@@ -1,5 +1,7 @@
 // What a property place is asked.
-ghost use Rattle.std.specs.Prelude.{◌≡◌, ◌-◌, ◌≤◌, true, [], ◌∷◌, map, length, take, IfSome, Some};
+#![tactic(auto, unfolding(crate::specs::Place::conditions_of, crate::specs::Place::sequences_of, crate::specs::Place::formulas_of), using(crate::proofs::Held::known))]
+
+ghost use Rattle.std.specs.Prelude.{◌≡◌, ◌-◌, ◌≤◌, true, [], ◌∷◌, map, length, IfSome, Some};
 ghost use Rattle.std.specs.List.{slice_get};
 ghost use Rattle.answer.specs.Questions.{Call};
 ghost use Rattle.psl.specs.Table.{size};
@@ -15,24 +17,9 @@ ghost use Rattle.property.specs.Place.{conditions_of, sequences_of, formulas_of,
 use crate::place::Property;
 use file::read::read_tables;
 use file::refusal::Refusal;
-use file::tables::{Counts, Tables};
+use file::tables::Tables;
 use psl::entry::{Condition, Formula, Sequence};
-
-// Row `i` of a table of which the first `count` rows are in use.
-fn row<E: Copy>(table: &[E], count: usize, i: usize) -> Option<E>
-    requires { count ≤ length table.now }
-    ensures { result ≡ slice_get (take count table.now) i }
-{
-    if i < count { Some(table[i]) } else { None }
-}
-
-// The first `count` rows of a table.
-fn used<E>(table: &[E], count: usize) -> &[E]
-    requires { count ≤ length table.now }
-    ensures { result.now ≡ take count table.now }
-{
-    &table[0..count]
-}
+use table::table::Table;
 
 impl Property {
     // The weak formula on the condition true.
@@ -43,15 +30,10 @@ impl Property {
     {
         Property {
             tables: Tables {
-                counts: Counts {
-                    conditions: 1,
-                    sequences: 0,
-                    formulas: 1,
-                },
-                conditions: [Condition::True; 64],
-                sequences: [Sequence::Empty; 64],
-                sizes: [0; 64],
-                formulas: [Formula::Weak(0); 64],
+                conditions: Table::of(&[Condition::True], Condition::True),
+                sequences: Table::new(Sequence::Empty),
+                sizes: Table::new(0),
+                formulas: Table::of(&[Formula::Weak(0)], Formula::Weak(0)),
             },
         }
     }
@@ -69,14 +51,14 @@ impl Property {
         ensures low_bound { 1 ≤ result }
         ensures high_bound { result ≤ 64 }
     {
-        self.tables.counts.conditions
+        self.tables.conditions.len()
     }
 
     pub fn sequence_count(&self) -> usize
         ensures value { result ≡ length (sequences_of self.now) }
         ensures high_bound { result ≤ 64 }
     {
-        self.tables.counts.sequences
+        self.tables.sequences.len()
     }
 
     pub fn formula_count(&self) -> usize
@@ -84,7 +66,7 @@ impl Property {
         ensures low_bound { 1 ≤ result }
         ensures high_bound { result ≤ 64 }
     {
-        self.tables.counts.formulas
+        self.tables.formulas.len()
     }
 
     // Condition `i`, whose operands name what they may.
@@ -92,7 +74,7 @@ impl Property {
         ensures value { result ≡ slice_get (conditions_of self.now) i }
         ensures names { IfSome result (λ e. condition_names i e ≡ true) }
     {
-        row(&self.tables.conditions, self.tables.counts.conditions, i)
+        self.tables.conditions.get(i)
     }
 
     // Sequence `i`, whose operands name what they may.
@@ -100,7 +82,7 @@ impl Property {
         ensures value { result ≡ slice_get (sequences_of self.now) i }
         ensures names { IfSome result (λ e. sequence_names (length (conditions_of self.now)) i e ≡ true) }
     {
-        row(&self.tables.sequences, self.tables.counts.sequences, i)
+        self.tables.sequences.get(i)
     }
 
     // The size of sequence `i`: of its entry, and of the tree that it denotes.
@@ -109,7 +91,7 @@ impl Property {
         ensures tree { result ≡ slice_get (map size (sequence_trees self.now)) i }
         ensures high_bound { IfSome result (λ z. z ≤ 240) }
     {
-        row(&self.tables.sizes, self.tables.counts.sequences, i)
+        self.tables.sizes.get(i)
     }
 
     // Formula `i`, whose operands name what they may.
@@ -117,7 +99,7 @@ impl Property {
         ensures value { result ≡ slice_get (formulas_of self.now) i }
         ensures names { IfSome result (λ e. formula_names (length (conditions_of self.now)) (length (sequences_of self.now)) i e ≡ true) }
     {
-        row(&self.tables.formulas, self.tables.counts.formulas, i)
+        self.tables.formulas.get(i)
     }
 
     // All conditions, each fit to stand after those before it.
@@ -125,7 +107,7 @@ impl Property {
         ensures value { result.now ≡ conditions_of self.now }
         ensures fine { inspected condition_rules [] result.now ≡ true }
     {
-        used(&self.tables.conditions, self.tables.counts.conditions)
+        self.tables.conditions.as_slice()
     }
 
     // All sequences, each fit to stand after those before it.
@@ -133,7 +115,7 @@ impl Property {
         ensures value { result.now ≡ sequences_of self.now }
         ensures fine { inspected (sequence_rules (length (conditions_of self.now))) [] result.now ≡ true }
     {
-        used(&self.tables.sequences, self.tables.counts.sequences)
+        self.tables.sequences.as_slice()
     }
 
     // All formulas, each fit to stand after those before it.
@@ -141,13 +123,13 @@ impl Property {
         ensures value { result.now ≡ formulas_of self.now }
         ensures fine { inspected (formula_rules (length (conditions_of self.now)) (length (sequences_of self.now))) [] result.now ≡ true }
     {
-        used(&self.tables.formulas, self.tables.counts.formulas)
+        self.tables.formulas.as_slice()
     }
 
     // The property itself: the last formula.
     pub fn root(&self) -> Formula
         ensures { slice_get (formulas_of self.now) (length (formulas_of self.now) - 1) ≡ Some result }
     {
-        self.tables.formulas[self.tables.counts.formulas - 1]
+        self.formulas()[self.formula_count() - 1]
     }
 }

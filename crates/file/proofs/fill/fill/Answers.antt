@@ -18,7 +18,7 @@ loop-rest-preserved g c =
     let same = ap₂ (λ a b. raw (get_or xs 0 0) a b) c.wide.ensures c.wide-in-len5-up.ensures in
     let before = g.F.Filling.filled c.loop-rest.table in
     let after = g.F.Filling.filled c.take_entry.new.self in
-    let turn = goes_on (g.F.Filling.rules c.args.table.now) c.args.section c.loop-rest.offset before after xs _ _ _ c.loop-rest.invariant.2 long same c.in-Ok.ensures in
+    let turn = goes_on (g.F.Filling.rules c.args.table) c.args.section c.loop-rest.offset before after xs _ _ _ c.loop-rest.invariant.2 long same c.in-Ok.ensures in
     let more : length after ≡ length before + 1 = turn.0 in (
       rw (take_rest xs 5) (simp length-drop (omega arith)),
       rw (take_rest xs 5) (simp length-drop (omega arith)),

@@ -17,4 +17,4 @@ accepted bytes line p none_is holds is = subst (λ o. LineAfter o bytes line) (s
 pub returns-in-Ok : goal.returns-in-Ok
 returns-in-Ok c =
     let told = c.in-Ok.ensures in
-    made_more _ _ c.write_property.result (λ s. accepted _ (string_bytes s) _ told.0 told.1) c.write_property.ensures
+    made_more _ _ c.property_line.result (λ s. accepted _ (string_bytes s) _ told.0 told.1) c.property_line.ensures

@@ -4,10 +4,10 @@ use table::table::Table;
 
 // How many entries of each section there are.
 #[derive(Clone, Copy)]
-pub(crate) struct Counts {
-    pub(crate) conditions: usize,
-    pub(crate) sequences: usize,
-    pub(crate) formulas: usize,
+pub struct Counts {
+    pub conditions: usize,
+    pub sequences: usize,
+    pub formulas: usize,
 }
 
 // The entries of a property, and beside each sequence its size.

@@ -1,5 +1,7 @@
 -- The image of a formula entry, over the images of its parts.
-use Rattle.std.proofs.Common.{◌≡◌, ℕ, ◌+◌, ◌*◌, ◌<◌, true, ltb, List, length, get_or, take, sym, refl, ap, ◌∙◌, subst, ap₂, arith, get_or-take}
+use Rattle.std.proofs.Common.{◌≡◌, ℕ, ◌<◌, true, ltb, List, length, get_or, take, Some, sym, refl, ap, ◌∙◌, subst, ap₂, arith, get_or-take}
+use Rattle.std.specs.List.{slice_get}
+use Rattle.std.proofs.lemmas.Option.{get_or_from_slice_get}
 use Rattle.std.proofs.lemmas.Bool.{ltb-true, and_parts}
 use Rattle.psl.specs.Syntax.{Condition, Formula, falsity, strong, weak, strong_sequence, weak_sequence, negated, conjoined, next, until, abort, implies}
 use Rattle.psl.specs.Removal.{unclock}
@@ -16,7 +18,7 @@ use Rattle.form.specs.declared.draft.Draft as code
 use Rattle.form.specs.Draft.{conditions_in, sequences_in, formulas_in, AddedFormula, Built, formula_in}
 use Rattle.form.specs.SequenceImages.{sequence_image, SequencePlaced}
 use Rattle.form.specs.FormulaImages.{formula_image, ForParts, FormulaPlaced, WroteFormula}
-use Rattle.form.specs.Pairs.{formula_adds_conditions, formula_adds_formulas}
+use Rattle.form.specs.Pairs.{key, formula_adds_conditions, formula_adds_formulas}
 use Rattle.form.proofs.Grown.{formula_as}
 
 module _ (p : Property) where
@@ -74,7 +76,6 @@ module _ (p : Property) where
           → formula_adds_conditions e ≡ 0 → formula_adds_formulas e ≡ 1 → WroteFormula p i c d d' r
       wrote x r new same zero_c one_f =
           record {
-            sound = new.sound;
             grows = new.grows;
             is = formula_as (same ∙ sym (image_is e told)) new.is;
             count_c = omega (arith, new.count_c, zero_c, ap formula_adds_conditions told.is);
@@ -85,7 +86,6 @@ module _ (p : Property) where
       pub built : (t : Formula) (r nc nf : ℕ) → Built d d' t r nc nf → t ≡ rewritten e c → formula_adds_conditions e ≡ nc → formula_adds_formulas e ≡ nf → WroteFormula p i c d d' r
       built t r nc nf new same is_c is_f =
           record {
-            sound = new.sound;
             grows = new.grows;
             is = formula_as (same ∙ sym (image_is e told)) new.is;
             count_c = omega (arith, new.count_c, is_c, ap formula_adds_conditions told.is);
@@ -93,5 +93,5 @@ module _ (p : Property) where
             count_f = omega (arith, new.count_f, is_f, ap formula_adds_formulas told.is);
           }
 
-  pub part : (d : code.Draft) (places : List ℕ) (k a b : ℕ) → k ≡ get_or places (64 * a + b) 0 → FormulaPlaced p d places a b → formula_in d k ≡ formula_image p a b
-  part d places k a b is placed = ap (formula_in d) is ∙ placed.is
+  pub part : (d : code.Draft) (places : List ℕ) (k a b : ℕ) → slice_get places (key a b) ≡ Some k → FormulaPlaced p d places a b → formula_in d k ≡ formula_image p a b
+  part d places k a b is placed = ap (formula_in d) (sym (get_or_from_slice_get places (key a b) k 0 is)) ∙ placed.is

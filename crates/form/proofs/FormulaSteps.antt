@@ -1,5 +1,5 @@
 -- The pass over the pairs of formulas and clocks.
-use Rattle.std.proofs.Common.{◌≡◌, ℕ, ◌+◌, ◌*◌, ◌/◌, ◌%◌, ◌<◌, ◌≤◌, Bool, true, false, ltb, ◌≢◌, List, length, get_or, set, sym, ap, ◌∙◌, subst, ap₂, ⊎_elim, arith, length-set, get_or-set_other, get_or-set_same}
+use Rattle.std.proofs.Common.{◌≡◌, ℕ, ◌+◌, ◌*◌, ◌/◌, ◌%◌, ◌<◌, ◌≤◌, Bool, true, false, ltb, ◌≢◌, List, length, get_or, set, sym, ap, ◌∙◌, subst, ap₂, ⊎_elim, arith, get_or-set_other, get_or-set_same}
 use Rattle.std.proofs.lemmas.Bool.{ltb-true, and_parts, cases_lt, both_ways}
 use Rattle.psl.specs.declared.entry.Formula as entryF
 use Rattle.psl.specs.declared.entry.Formula.TheVariants as f
@@ -8,7 +8,7 @@ use Rattle.property.specs.declared.place.Property.{Property}
 use Rattle.property.specs.Place.{conditions_of, sequences_of, formulas_of}
 use Rattle.form.proofs.Held.{held_formula}
 use Rattle.form.specs.declared.draft.Draft as code
-use Rattle.form.specs.Draft.{FormulaIs, Room}
+use Rattle.form.specs.Draft.{conditions_in, formulas_in, FormulaIs, Room}
 use Rattle.form.specs.Pairs.{key, formula_adds_conditions, formula_adds_formulas, total}
 use Rattle.form.specs.SequenceImages.{SequencePlaced, Marked}
 use Rattle.form.specs.FormulaImages.{formula_image, ForParts, FormulaPlaced, WroteFormula, FormulasClosed, FormulasStand}
@@ -39,39 +39,34 @@ module _ (p : Property) (met sm : List Bool) (d₀ d : code.Draft) (sp places : 
   step_no e = (
     inv.0,
     inv.1,
-    inv.2,
-    (λ i c l h m. ⊎_elim (λ h'. inv.3 i c l h' m)
+    (λ i c l h m. ⊎_elim (λ h'. inv.2 i c l h' m)
         (λ h'. let is : key i c ≡ k = omega arith in absurd (both_ways (get_or met k false) e (ap (λ k. get_or met k false) (sym is) ∙ m)))
         (cases_lt (key i c) k)),
-    inv.4 ∙ ap (λ x. d₀.counts.conditions + x) (sym (total_no (f.Strong 0) formula_adds_conditions (formulas_of p) met k e)),
-    inv.5 ∙ ap (λ x. d₀.counts.formulas + x) (sym (total_no (f.Strong 0) formula_adds_formulas (formulas_of p) met k e)),
+    inv.3 ∙ ap (λ x. length (conditions_in d₀) + x) (sym (total_no (f.Strong 0) formula_adds_conditions (formulas_of p) met k e)),
+    inv.4 ∙ ap (λ x. length (formulas_in d₀) + x) (sym (total_no (f.Strong 0) formula_adds_formulas (formulas_of p) met k e)),
+    inv.5,
     inv.6,
-    inv.7,
-    inv.8,
   )
 
-  pub step_yes : (d' : code.Draft) (r : ℕ) → get_or met k false ≡ true → k < 4096 → WroteFormula p (k / 64) (k % 64) d d' r → FormulasStand p met sm d₀ d' sp (set places k r) (k + 1)
-  step_yes d' r e few new = (
-    new.sound,
-    grows_twice inv.1 new.grows,
-    (λ j h. keep_condition new.grows (inv.2 j h)),
-    (λ i c l h m. ⊎_elim (λ h'. old i c h' (inv.3 i c l h' m)) (λ h'. let is : key i c ≡ k = omega arith in here i c l is) (cases_lt (key i c) k)),
-    (let q = total_yes (f.Strong 0) formula_adds_conditions (formulas_of p) met k e in omega (arith, q, new.count_c, inv.4)),
-    (let q = total_yes (f.Strong 0) formula_adds_formulas (formulas_of p) met k e in omega (arith, q, new.count_f, inv.5)),
-    length-set places k r ∙ inv.6,
-    (λ i c l h m. keep_sequence inv.0 new.grows (inv.7 i c l h m)),
-    new.count_s ∙ inv.8,
+  pub step_yes : (d' : code.Draft) (r : ℕ) → get_or met k false ≡ true → k < length places → WroteFormula p (k / 64) (k % 64) d d' r → FormulasStand p met sm d₀ d' sp (set places k r) (k + 1)
+  step_yes d' r e room new = (
+    grows_twice inv.0 new.grows,
+    (λ j h. keep_condition new.grows (inv.1 j h)),
+    (λ i c l h m. ⊎_elim (λ h'. old i c h' (inv.2 i c l h' m)) (λ h'. let is : key i c ≡ k = omega arith in here i c l is) (cases_lt (key i c) k)),
+    (let q = total_yes (f.Strong 0) formula_adds_conditions (formulas_of p) met k e in omega (arith, q, new.count_c, inv.3)),
+    (let q = total_yes (f.Strong 0) formula_adds_formulas (formulas_of p) met k e in omega (arith, q, new.count_f, inv.4)),
+    (λ i c l h m. keep_sequence new.grows (inv.5 i c l h m)),
+    new.count_s ∙ inv.6,
   )
     where
       old : (i c : ℕ) → key i c < k → FormulaPlaced p d places i c → FormulaPlaced p d' (set places k r) i c
       old i c h was =
           let ne : key i c ≢ k = omega arith in
-          subst (λ x. FormulaIs d' x (formula_image p i c)) (sym (get_or-set_other places k (key i c) r 0 ne)) (keep_formula inv.0 new.grows was)
+          subst (λ x. FormulaIs d' x (formula_image p i c)) (sym (get_or-set_other places k (key i c) r 0 ne)) (keep_formula new.grows was)
 
       here : (i c : ℕ) → c < 64 → key i c ≡ k → FormulaPlaced p d' (set places k r) i c
       here i c l is =
-          let inside : k < length places = omega (arith, inv.6) in
-          subst (λ x. FormulaIs d' x (formula_image p i c)) (sym (ap (λ j. get_or (set places k r) j 0) is ∙ get_or-set_same places k r 0 inside))
+          subst (λ x. FormulaIs d' x (formula_image p i c)) (sym (ap (λ j. get_or (set places k r) j 0) is ∙ get_or-set_same places k r 0 room))
           (subst (λ t. FormulaIs d' r t) (ap₂ (formula_image p) (sym (entry_of i c k l is)) (sym (clock_of i c k l is))) new.is)
 
   pub ready_here : FormulasClosed p met sm → get_or met k false ≡ true → k < 64 * length (formulas_of p) → length (conditions_of p) ≤ 64
@@ -84,7 +79,7 @@ module _ (p : Property) (met sm : List Bool) (d₀ d : code.Draft) (sp places : 
       let told = closed i c there small (ap (λ j. get_or met j false) (whole k) ∙ e) in (
         told.0,
         for_parts (Marked met) (FormulaPlaced p d places) (Marked sm) (SequencePlaced p d sp) (length (conditions_of p)) (length (sequences_of p)) i c (get_or (formulas_of p) i (f.Strong 0)) few small (held_formula p i there).names
-            (λ a b l m x. inv.3 a b m (below a b l m) x) (λ a b l m x. inv.7 a b m (low a b l m) x) told.1,
+            (λ a b l m x. inv.2 a b m (below a b l m) x) (λ a b l m x. inv.5 a b m (low a b l m) x) told.1,
       )
     where
       below : (a b : ℕ) → a < k / 64 → b < 64 → key a b < k
@@ -100,4 +95,4 @@ module _ (p : Property) (met sm : List Bool) (d₀ d : code.Draft) (sp places : 
       let r = total_yes (f.Strong 0) formula_adds_formulas (formulas_of p) met k e in
       let c' = total_mono (f.Strong 0) formula_adds_conditions (formulas_of p) met (k + 1) n (omega arith) in
       let r' = total_mono (f.Strong 0) formula_adds_formulas (formulas_of p) met (k + 1) n (omega arith) in
-      (omega (arith, c, c', inv.4, room.0), omega (arith, r, r', inv.5, room.1))
+      (omega (arith, c, c', inv.3, room.0), omega (arith, r, r', inv.4, room.1))

@@ -1,7 +1,6 @@
 -- What a form place says for ever: where its root is, and what it is.
 use Rattle.std.proofs.Common.{◌≡◌, ℕ, zero, suc, ◌-◌, ◌<◌, true, ltb, ◌⊎◌, ◌↔◌, List, [], ◌∷◌, length, get_or, sym, refl, ap, ◌∙◌, subst, ap₂, inl, inr, ⊎_elim, arith}
 use native.Mathlib.Decide.{ℕ_discrete}
-use Rattle.std.proofs.lemmas.List.{length-take-le}
 use Rattle.std.proofs.lemmas.Bool.{ltb-true, lt-ltb, eqb-true, eq-eqb, and_parts, and_from, or_cases, or_left, or_right}
 use Rattle.psl.specs.Syntax.{Formula, truth, falsity, weak, Condition-discrete, Sequence-discrete, Formula-discrete}
 use Rattle.psl.specs.Unclocked.{UnclockedSatisfies}
@@ -17,7 +16,8 @@ use Rattle.property.specs.declared.place.Property.{Property}
 use Rattle.property.specs.Place.{conditions_of, sequences_of, formulas_of, condition_trees, sequence_trees, formula_trees, property_tree}
 use Rattle.form.specs.declared.draft.Draft as code
 use Rattle.form.specs.declared.place.Form.{Form}
-use Rattle.form.specs.Draft.{conditions_in, sequences_in, formulas_in, formula_in, AllNamed}
+use Rattle.form.specs.Draft.{formulas_in, formula_in}
+use Rattle.form.specs.Named.{AllNamed}
 use Rattle.form.specs.FormulaImages.{formula_image}
 use Rattle.form.specs.Made.{answer, same_formula, rewriting, rewrites, as_new, made}
 use Rattle.form.specs.Rewritten.{Rewritten}
@@ -51,16 +51,15 @@ image_rewriting p = refl
 pub rewritten_made : (p : Property) (d : code.Draft) (root : ℕ) → Rewritten p d root → made p d root ≡ true
 unfolding made rewrites
 rewritten_made p d root is =
-    let few : length (formulas_in d) ≡ d.counts.formulas = length-take-le _ d.formulas (omega (arith, is.sound.long_f, is.sound.few_f)) in
-    and_from _ _ (lt-ltb root d.counts.formulas (omega (arith, is.is.there)))
+    and_from _ _ (lt-ltb root (length (formulas_in d)) is.is.there)
     (or_left (rewrites p d root) _
     (and_from _ _ (true_same _ _ (is.is.is ∙ image_rewriting p))
     (and_from _ _ (eq-eqb _ _ is.count_c) (and_from _ _ (eq-eqb _ _ is.count_s) (eq-eqb _ _ is.count_f)))))
 
-pub new_made : (p : Property) (d : code.Draft) (root : ℕ) → root < d.counts.formulas → formula_in d root ≡ weak truth → rewriting p ≡ unclock truth (weak truth) → made p d root ≡ true
+pub new_made : (p : Property) (d : code.Draft) (root : ℕ) → root < length (formulas_in d) → formula_in d root ≡ weak truth → rewriting p ≡ unclock truth (weak truth) → made p d root ≡ true
 unfolding made as_new
 new_made p d root there tree new =
-    and_from _ _ (lt-ltb root d.counts.formulas there)
+    and_from _ _ (lt-ltb root (length (formulas_in d)) there)
     (or_right (rewrites p d root) (as_new p d root) (and_from (same_formula (formula_in d root) (weak truth)) _ (true_same _ _ tree) (true_same _ _ new)))
 
 -- a new property's rewriting is that of the weak condition true under the clock true
@@ -83,43 +82,34 @@ first_formula zero h = refl
 first_formula (suc k) h = let z : ⊥ = omega arith in absurd z
 
 module _ (f : Form) where
-  parts : (f.root < f.draft.counts.formulas) × ((rewrites f.property f.draft f.root ≡ true) ⊎ (as_new f.property f.draft f.root ≡ true))
+  parts : (f.rooted.root < length (formulas_in f.rooted.draft)) × ((rewrites f.property f.rooted.draft f.rooted.root ≡ true) ⊎ (as_new f.property f.rooted.draft f.rooted.root ≡ true))
   unfolding made
   parts =
-      let both = and_parts (ltb f.root f.draft.counts.formulas) _ f.made in
+      let both = and_parts (ltb f.rooted.root (length (formulas_in f.rooted.draft))) _ f.made in
       (ltb-true _ _ both.0, or_cases _ _ both.1)
 
-  conditions_number : length (conditions_in f.draft) ≡ f.draft.counts.conditions
-  conditions_number = length-take-le _ f.draft.conditions (omega (arith, f.whole.0, f.within.0))
-
-  sequences_number : length (sequences_in f.draft) ≡ f.draft.counts.sequences
-  sequences_number = length-take-le _ f.draft.sequences (omega (arith, f.whole.1, f.within.1))
-
-  formulas_number : length (formulas_in f.draft) ≡ f.draft.counts.formulas
-  formulas_number = length-take-le _ f.draft.formulas (omega (arith, f.whole.2, f.within.2))
-
-  pub root_there : f.root < length (form_formulas f)
+  pub root_there : f.rooted.root < length (form_formulas f)
   unfolding form_formulas
-  root_there = omega (arith, parts.0, formulas_number)
+  root_there = parts.0
 
-  from_source : rewrites f.property f.draft f.root ≡ true → MadeFrom (source f) f
+  from_source : rewrites f.property f.rooted.draft f.rooted.root ≡ true → MadeFrom (source f) f
   unfolding rewrites form_tree form_conditions form_sequences form_formulas form_root source
   from_source is =
-      let a = and_parts (same_formula (formula_in f.draft f.root) (rewriting f.property)) _ is in
+      let a = and_parts (same_formula (formula_in f.rooted.draft f.rooted.root) (rewriting f.property)) _ is in
       let b = and_parts _ _ a.1 in
       let c = and_parts _ _ b.1 in
       record {
         source = refl;
         tree = same_true _ _ a.0;
-        conditions = conditions_number ∙ eqb-true _ _ b.0;
-        sequences = sequences_number ∙ eqb-true _ _ c.0;
-        formulas = formulas_number ∙ eqb-true _ _ c.1;
+        conditions = eqb-true _ _ b.0;
+        sequences = eqb-true _ _ c.0;
+        formulas = eqb-true _ _ c.1;
       }
 
-  new_tree : as_new f.property f.draft f.root ≡ true → (form_tree f ≡ weak truth) × (rewriting (source f) ≡ unclock truth (weak truth))
+  new_tree : as_new f.property f.rooted.draft f.rooted.root ≡ true → (form_tree f ≡ weak truth) × (rewriting (source f) ≡ unclock truth (weak truth))
   unfolding as_new form_tree form_conditions form_sequences form_formulas form_root source
   new_tree is =
-      let both = and_parts (same_formula (formula_in f.draft f.root) (weak truth)) _ is in
+      let both = and_parts (same_formula (formula_in f.rooted.draft f.rooted.root) (weak truth)) _ is in
       (same_true _ _ both.0, same_true _ _ both.1)
 
   pub stands : Stands f
@@ -142,13 +132,13 @@ module _ (f : Form) where
       parts.1
 
 -- a form whose draft is rewritten from its property
-pub from_rewritten : (f : Form) → Rewritten f.property f.draft f.root → MadeFrom f.property f
+pub from_rewritten : (f : Form) → Rewritten f.property f.rooted.draft f.rooted.root → MadeFrom f.property f
 unfolding form_tree form_conditions form_sequences form_formulas form_root source
 from_rewritten f is =
     record {
       source = refl;
       tree = is.is.is ∙ image_rewriting f.property;
-      conditions = conditions_number f ∙ is.count_c;
-      sequences = sequences_number f ∙ is.count_s;
-      formulas = formulas_number f ∙ is.count_f;
+      conditions = is.count_c;
+      sequences = is.count_s;
+      formulas = is.count_f;
     }

@@ -3,7 +3,7 @@ use Rattle.std.proofs.Common.{◌≡◌, ℕ, zero, suc, ◌-◌, ◌*◌, ◌<�
 use Rattle.std.proofs.lemmas.Bool.{both_ways}
 use Rattle.property.specs.declared.place.Property.{Property}
 use Rattle.property.specs.Place.{conditions_of, sequences_of, formulas_of}
-use Rattle.property.proofs.Held.{within, conditions_counted, sequences_counted, formulas_counted}
+use Rattle.property.proofs.Held.{few_conditions, some_conditions, few_sequences, few_formulas, some_formulas}
 use Rattle.form.proofs.Held.{held_formula}
 use Rattle.form.specs.Pairs.{key}
 use Rattle.form.specs.SequenceImages.{Marked, SequencesClosed}
@@ -24,21 +24,6 @@ length_replicate zero = refl
 length_replicate (suc n) = ap suc (length_replicate n)
 
 module _ (p : Property) where
-  pub few_conditions : length (conditions_of p) ≤ 64
-  few_conditions = omega (arith, conditions_counted p, (within p).few_conditions)
-
-  pub some_conditions : 1 ≤ length (conditions_of p)
-  some_conditions = omega (arith, conditions_counted p, (within p).some_conditions)
-
-  pub few_sequences : length (sequences_of p) ≤ 64
-  few_sequences = omega (arith, sequences_counted p, (within p).few_sequences)
-
-  pub few_formulas : length (formulas_of p) ≤ 64
-  few_formulas = omega (arith, formulas_counted p, (within p).few_formulas)
-
-  pub some_formulas : 1 ≤ length (formulas_of p)
-  some_formulas = omega (arith, formulas_counted p, (within p).some_formulas)
-
   abbrev root : ℕ
   root = key (length (formulas_of p) - 1) 0
 
@@ -46,7 +31,7 @@ module _ (p : Property) where
   first = set unmarked root true
 
   root_fits : root < length unmarked
-  root_fits = omega (arith, length_replicate 4096, few_formulas, some_formulas)
+  root_fits = omega (arith, length_replicate 4096, few_formulas p, some_formulas p)
 
   -- nothing is marked but the root
   first_only : (i c : ℕ) → c < 64 → Marked first i c → c ≡ 0
@@ -62,18 +47,18 @@ module _ (p : Property) where
   formulas_made : formula.Inv p first unmarked (formulas_met p).formulas (formulas_met p).sequences 0
   unfolding formulas_met
   formulas_made =
-      formula.meets p few_conditions few_sequences few_formulas first unmarked (64 * length (formulas_of p)) (omega arith) (root_marked p)
+      formula.meets p (few_conditions p) (few_sequences p) (few_formulas p) first unmarked (64 * length (formulas_of p)) (omega arith) (root_marked p)
       (formula.start p first unmarked
-      (λ i c l m. omega (arith, first_only i c l m, some_conditions))
+      (λ i c l m. omega (arith, first_only i c l m, some_conditions p))
       (λ i c l m. absurd (none_marked i c m))
-      (length-set unmarked root true ∙ length_replicate 4096) (length_replicate 4096) few_formulas (λ i c there l u. omega arith))
+      (length-set unmarked root true ∙ length_replicate 4096) (length_replicate 4096) (few_formulas p) (λ i c there l u. omega arith))
 
   abbrev used : List Bool
   used = (formulas_met p).sequences
 
   sequences_made : sequence.Inv p used (meet_sequences (sequences_of p) (64 * length (sequences_of p)) used) 0
   sequences_made =
-      sequence.meets p few_conditions few_sequences used (64 * length (sequences_of p)) (omega arith) used (sequence.start p used formulas_made.3 formulas_made.7)
+      sequence.meets p (few_conditions p) (few_sequences p) used (64 * length (sequences_of p)) (omega arith) used (sequence.start p used formulas_made.3 formulas_made.7)
 
   pub met_least : LeastClosed p (met p)
   unfolding met
@@ -89,7 +74,7 @@ module _ (p : Property) where
       closed_f i c there l m = (
         formulas_made.2 i c l m,
         for_parts (Marked (met p).formulas) (Marked (met p).formulas) (Marked used) (Marked (met p).sequences) (length (conditions_of p)) (length (sequences_of p)) i c _
-            few_conditions l (held_formula p i there).names (λ a b _ _ y. y) (λ a b _ small y. sequences_made.0 a b small y) (formulas_made.4 i c there l (low i c) m),
+            (few_conditions p) l (held_formula p i there).names (λ a b _ _ y. y) (λ a b _ small y. sequences_made.0 a b small y) (formulas_made.4 i c there l (low i c) m),
       )
 
       closed : Closed p (met p)

@@ -16,7 +16,7 @@ use Rattle.property.proofs.Trees.{sizes_of_trees}
 use Rattle.form.specs.Origins.{FromImages, Sized}
 use Rattle.form.specs.Made.{rewriting}
 use Rattle.form.proofs.Held.{held_formula}
-use Rattle.form.proofs.MetPairs.{some_formulas}
+use Rattle.property.proofs.Held.{some_formulas}
 use Rattle.form.proofs.FormulaImages.{tree_at}
 
 -- the image of a formula whose sequences are small

@@ -1,5 +1,7 @@
 -- The image of an entry, over the images of its operands.
-use Rattle.std.proofs.Common.{◌≡◌, ℕ, ◌+◌, ◌*◌, ◌<◌, true, ◌&&◌, ltb, List, length, get_or, take, sym, refl, ap, ◌∙◌, subst, ap₂, arith, get_or-take}
+use Rattle.std.proofs.Common.{◌≡◌, ℕ, ◌<◌, true, ◌&&◌, ltb, List, length, get_or, take, Some, sym, refl, ap, ◌∙◌, subst, ap₂, arith, get_or-take}
+use Rattle.std.specs.List.{slice_get}
+use Rattle.std.proofs.lemmas.Option.{get_or_from_slice_get}
 use Rattle.std.proofs.lemmas.Bool.{ltb-true, and_parts}
 use Rattle.psl.specs.Syntax.{Sequence, falsity, empty, condition, concat, fusion, either, both, star}
 use Rattle.psl.specs.Removal.{unclock_sequence}
@@ -13,7 +15,7 @@ use Rattle.property.specs.Place.{conditions_of, sequences_of, condition_trees, s
 use Rattle.form.specs.Entries.{SequenceAt}
 use Rattle.form.specs.declared.draft.Draft as code
 use Rattle.form.specs.Draft.{conditions_in, sequences_in, AddedSequence}
-use Rattle.form.specs.Pairs.{sequence_adds_conditions, sequence_adds_sequences}
+use Rattle.form.specs.Pairs.{key, sequence_adds_conditions, sequence_adds_sequences}
 use Rattle.form.specs.SequenceImages.{sequence_image, ForOperands, SequencePlaced, WroteSequence}
 use Rattle.form.proofs.Grown.{sequence_as}
 
@@ -67,7 +69,6 @@ module _ (p : Property) where
           → sequence_adds_conditions e ≡ 0 → sequence_adds_sequences e ≡ 1 → WroteSequence p i c d d' r
       wrote x r new same zero_c one_s =
           record {
-            sound = new.sound;
             grows = new.grows;
             is = sequence_as (same ∙ sym (image_is e told)) new.is;
             count_c = omega (arith, new.count_c, zero_c, ap sequence_adds_conditions told.is);
@@ -75,9 +76,6 @@ module _ (p : Property) where
             count_f = new.count_f;
           }
 
-    -- an operand, where it was placed
-    pub operand : (d : code.Draft) (places : List ℕ) (k a b : ℕ) → k ≡ get_or places (64 * a + b) 0 → SequencePlaced p d places a b → get_or (sequences (conditions (conditions_in d)) (sequences_in d)) k empty ≡ sequence_image p a b
-    operand d places k a b is placed = ap (λ k. get_or (sequences (conditions (conditions_in d)) (sequences_in d)) k empty) is ∙ placed.is
-
-  pub operandS : (d : code.Draft) (places : List ℕ) (k a b : ℕ) → k ≡ get_or places (64 * a + b) 0 → SequencePlaced p d places a b → get_or (sequences (conditions (conditions_in d)) (sequences_in d)) k empty ≡ sequence_image p a b
-  operandS d places k a b is placed = ap (λ k. get_or (sequences (conditions (conditions_in d)) (sequences_in d)) k empty) is ∙ placed.is
+  -- an operand, where it was placed
+  pub operand : (d : code.Draft) (places : List ℕ) (k a b : ℕ) → slice_get places (key a b) ≡ Some k → SequencePlaced p d places a b → get_or (sequences (conditions (conditions_in d)) (sequences_in d)) k empty ≡ sequence_image p a b
+  operand d places k a b is placed = ap (λ k. get_or (sequences (conditions (conditions_in d)) (sequences_in d)) k empty) (sym (get_or_from_slice_get places (key a b) k 0 is)) ∙ placed.is

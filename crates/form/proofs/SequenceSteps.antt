@@ -1,5 +1,5 @@
 -- The pass over the pairs of sequences and clocks.
-use Rattle.std.proofs.Common.{◌≡◌, ℕ, ◌+◌, ◌*◌, ◌/◌, ◌%◌, ◌<◌, ◌≤◌, Bool, true, false, ltb, ◌≢◌, List, length, get_or, set, sym, ap, ◌∙◌, subst, ap₂, ⊎_elim, arith, length-set, get_or-set_other, get_or-set_same}
+use Rattle.std.proofs.Common.{◌≡◌, ℕ, ◌+◌, ◌*◌, ◌/◌, ◌%◌, ◌<◌, ◌≤◌, Bool, true, false, ltb, ◌≢◌, List, length, get_or, set, sym, ap, ◌∙◌, subst, ap₂, ⊎_elim, arith, get_or-set_other, get_or-set_same}
 use Rattle.std.proofs.lemmas.Bool.{ltb-true, and_parts, cases_lt, both_ways}
 use Rattle.psl.specs.declared.entry.Sequence as entryS
 use Rattle.psl.specs.declared.entry.Sequence.TheVariants as s
@@ -8,7 +8,7 @@ use Rattle.property.specs.declared.place.Property.{Property}
 use Rattle.property.specs.Place.{conditions_of, sequences_of}
 use Rattle.form.proofs.Held.{held_sequence}
 use Rattle.form.specs.declared.draft.Draft as code
-use Rattle.form.specs.Draft.{SequenceIs}
+use Rattle.form.specs.Draft.{conditions_in, sequences_in, SequenceIs}
 use Rattle.form.specs.Pairs.{key, sequence_adds_conditions, sequence_adds_sequences, total}
 use Rattle.form.specs.SequenceImages.{sequence_image, ForOperands, SequencePlaced, WroteSequence, Marked, SequencesClosed, SequencesStand}
 use Rattle.form.proofs.Totals.{total_mono, total_yes, total_no}
@@ -49,37 +49,32 @@ module _ (p : Property) (met : List Bool) (d₀ d : code.Draft) (places : List �
   step_no e = (
     inv.0,
     inv.1,
-    inv.2,
-    (λ i c l h m. ⊎_elim (λ h'. inv.3 i c l h' m)
+    (λ i c l h m. ⊎_elim (λ h'. inv.2 i c l h' m)
         (λ h'. let is : key i c ≡ k = omega arith in absurd (both_ways (get_or met k false) e (ap (λ k. get_or met k false) (sym is) ∙ m)))
         (cases_lt (key i c) k)),
-    inv.4 ∙ ap (λ x. d₀.counts.conditions + x) (sym (total_no (s.Condition 0) sequence_adds_conditions (sequences_of p) met k e)),
-    inv.5 ∙ ap (λ x. d₀.counts.sequences + x) (sym (total_no (s.Condition 0) sequence_adds_sequences (sequences_of p) met k e)),
-    inv.6,
-    inv.7,
+    inv.3 ∙ ap (λ x. length (conditions_in d₀) + x) (sym (total_no (s.Condition 0) sequence_adds_conditions (sequences_of p) met k e)),
+    inv.4 ∙ ap (λ x. length (sequences_in d₀) + x) (sym (total_no (s.Condition 0) sequence_adds_sequences (sequences_of p) met k e)),
+    inv.5,
   )
 
-  pub step_yes : (d' : code.Draft) (r : ℕ) → get_or met k false ≡ true → k < 4096 → WroteSequence p (k / 64) (k % 64) d d' r → SequencesStand p met d₀ d' (set places k r) (k + 1)
-  step_yes d' r e few new = (
-    new.sound,
-    grows_twice inv.1 new.grows,
-    (λ j h. keep_condition new.grows (inv.2 j h)),
-    (λ i c l h m. ⊎_elim (λ h'. old i c h' (inv.3 i c l h' m)) (λ h'. let is : key i c ≡ k = omega arith in here i c l is) (cases_lt (key i c) k)),
-    (let q = total_yes (s.Condition 0) sequence_adds_conditions (sequences_of p) met k e in omega (arith, q, new.count_c, inv.4)),
-    (let q = total_yes (s.Condition 0) sequence_adds_sequences (sequences_of p) met k e in omega (arith, q, new.count_s, inv.5)),
-    length-set places k r ∙ inv.6,
-    new.count_f ∙ inv.7,
+  pub step_yes : (d' : code.Draft) (r : ℕ) → get_or met k false ≡ true → k < length places → WroteSequence p (k / 64) (k % 64) d d' r → SequencesStand p met d₀ d' (set places k r) (k + 1)
+  step_yes d' r e room new = (
+    grows_twice inv.0 new.grows,
+    (λ j h. keep_condition new.grows (inv.1 j h)),
+    (λ i c l h m. ⊎_elim (λ h'. old i c h' (inv.2 i c l h' m)) (λ h'. let is : key i c ≡ k = omega arith in here i c l is) (cases_lt (key i c) k)),
+    (let q = total_yes (s.Condition 0) sequence_adds_conditions (sequences_of p) met k e in omega (arith, q, new.count_c, inv.3)),
+    (let q = total_yes (s.Condition 0) sequence_adds_sequences (sequences_of p) met k e in omega (arith, q, new.count_s, inv.4)),
+    new.count_f ∙ inv.5,
   )
     where
       old : (i c : ℕ) → key i c < k → SequencePlaced p d places i c → SequencePlaced p d' (set places k r) i c
       old i c h was =
           let ne : key i c ≢ k = omega arith in
-          subst (λ x. SequenceIs d' x (sequence_image p i c)) (sym (get_or-set_other places k (key i c) r 0 ne)) (keep_sequence inv.0 new.grows was)
+          subst (λ x. SequenceIs d' x (sequence_image p i c)) (sym (get_or-set_other places k (key i c) r 0 ne)) (keep_sequence new.grows was)
 
       here : (i c : ℕ) → c < 64 → key i c ≡ k → SequencePlaced p d' (set places k r) i c
       here i c l is =
-          let inside : k < length places = omega (arith, inv.6) in
-          subst (λ x. SequenceIs d' x (sequence_image p i c)) (sym (ap (λ j. get_or (set places k r) j 0) is ∙ get_or-set_same places k r 0 inside))
+          subst (λ x. SequenceIs d' x (sequence_image p i c)) (sym (ap (λ j. get_or (set places k r) j 0) is ∙ get_or-set_same places k r 0 room))
           (subst (λ t. SequenceIs d' r t) (ap₂ (sequence_image p) (sym (entry_of i c k l is)) (sym (clock_of i c k l is))) new.is)
 
   -- what the writer of one pair requires
@@ -93,17 +88,17 @@ module _ (p : Property) (met : List Bool) (d₀ d : code.Draft) (places : List �
       let told = closed i c there small (ap (λ j. get_or met j false) (whole k) ∙ e) in (
         told.0,
         for_operands (Marked met) (SequencePlaced p d places) (length (conditions_of p)) i c (get_or (sequences_of p) i (s.Condition 0)) few small (held_sequence p i there).names
-            (λ a b l m x. inv.3 a b m (below a b l m) x) told.1,
+            (λ a b l m x. inv.2 a b m (below a b l m) x) told.1,
       )
     where
       below : (a b : ℕ) → a < k / 64 → b < 64 → key a b < k
       below a b l m = omega arith
 
-  pub room_here : (n : ℕ) → k < n → get_or met k false ≡ true → (d₀.counts.conditions + total (s.Condition 0) sequence_adds_conditions (sequences_of p) met n ≤ 256) × (d₀.counts.sequences + total (s.Condition 0) sequence_adds_sequences (sequences_of p) met n ≤ 256)
-      → (d.counts.conditions + sequence_adds_conditions (get_or (sequences_of p) (k / 64) (s.Condition 0)) ≤ 256) × (d.counts.sequences + sequence_adds_sequences (get_or (sequences_of p) (k / 64) (s.Condition 0)) ≤ 256)
+  pub room_here : (n : ℕ) → k < n → get_or met k false ≡ true → (length (conditions_in d₀) + total (s.Condition 0) sequence_adds_conditions (sequences_of p) met n ≤ 256) × (length (sequences_in d₀) + total (s.Condition 0) sequence_adds_sequences (sequences_of p) met n ≤ 256)
+      → (length (conditions_in d) + sequence_adds_conditions (get_or (sequences_of p) (k / 64) (s.Condition 0)) ≤ 256) × (length (sequences_in d) + sequence_adds_sequences (get_or (sequences_of p) (k / 64) (s.Condition 0)) ≤ 256)
   room_here n h e room =
       let c = total_yes (s.Condition 0) sequence_adds_conditions (sequences_of p) met k e in
       let r = total_yes (s.Condition 0) sequence_adds_sequences (sequences_of p) met k e in
       let c' = total_mono (s.Condition 0) sequence_adds_conditions (sequences_of p) met (k + 1) n (omega arith) in
       let r' = total_mono (s.Condition 0) sequence_adds_sequences (sequences_of p) met (k + 1) n (omega arith) in
-      (omega (arith, c, c', inv.4, room.0), omega (arith, r, r', inv.5, room.1))
+      (omega (arith, c, c', inv.3, room.0), omega (arith, r, r', inv.4, room.1))

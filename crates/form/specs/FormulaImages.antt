@@ -8,7 +8,7 @@ use Rattle.psl.specs.declared.entry.Formula.TheVariants as f
 use Rattle.property.specs.declared.place.Property.{Property}
 use Rattle.property.specs.Place.{formulas_of, sequences_of, conditions_of, condition_trees, formula_trees}
 use Rattle.form.specs.declared.draft.Draft as code
-use Rattle.form.specs.Draft.{FormulaIs, Sound, Grows}
+use Rattle.form.specs.Draft.{conditions_in, sequences_in, formulas_in, FormulaIs, Grows}
 use Rattle.form.specs.Pairs.{key, formula_adds_conditions, formula_adds_formulas, total}
 use Rattle.form.specs.SequenceImages.{Marked, Carries, SequencesWritten}
 
@@ -36,12 +36,11 @@ FormulaPlaced p d places i c = FormulaIs d (slice_index places (key i c)) (formu
 
 -- the image of formula i under clock c was added, as number r
 pub record WroteFormula (p : Property) (i c : ℕ) (d e : code.Draft) (r : ℕ) : Type 0 where
-  pub sound : Sound e
   pub grows : Grows d e
   pub is : FormulaIs e r (formula_image p i c)
-  pub count_c : e.counts.conditions ≡ d.counts.conditions + formula_adds_conditions (slice_index_or (formulas_of p) i (f.Strong 0))
-  pub count_s : e.counts.sequences ≡ d.counts.sequences
-  pub count_f : e.counts.formulas ≡ d.counts.formulas + formula_adds_formulas (slice_index_or (formulas_of p) i (f.Strong 0))
+  pub count_c : length (conditions_in e) ≡ length (conditions_in d) + formula_adds_conditions (slice_index_or (formulas_of p) i (f.Strong 0))
+  pub count_s : length (sequences_in e) ≡ length (sequences_in d)
+  pub count_f : length (formulas_in e) ≡ length (formulas_in d) + formula_adds_formulas (slice_index_or (formulas_of p) i (f.Strong 0))
 
 -- with each marked pair of a formula, those of its parts are marked, and its clock is a condition
 abbrev pub FormulasClosed : Property → List Bool → List Bool → Type 0
@@ -56,7 +55,7 @@ FormulasWritten p met d places n = (i c : ℕ) → c < 64 → key i c < n → Ma
 -- what stands after the pairs of formulas below key k were written
 abbrev pub FormulasStand : Property → List Bool → List Bool → code.Draft → code.Draft → List ℕ → List ℕ → ℕ → Type 0
 FormulasStand p fm sm d₀ d sp places k =
-    Sound d × Grows d₀ d × Carries p d × FormulasWritten p fm d places k
-    × (d.counts.conditions ≡ d₀.counts.conditions + total (f.Strong 0) formula_adds_conditions (formulas_of p) fm k)
-    × (d.counts.formulas ≡ d₀.counts.formulas + total (f.Strong 0) formula_adds_formulas (formulas_of p) fm k)
-    × (length places ≡ 4096) × SequencesWritten p sm d sp (64 * length (sequences_of p)) × (d.counts.sequences ≡ d₀.counts.sequences)
+    Grows d₀ d × Carries p d × FormulasWritten p fm d places k
+    × (length (conditions_in d) ≡ length (conditions_in d₀) + total (f.Strong 0) formula_adds_conditions (formulas_of p) fm k)
+    × (length (formulas_in d) ≡ length (formulas_in d₀) + total (f.Strong 0) formula_adds_formulas (formulas_of p) fm k)
+    × SequencesWritten p sm d sp (64 * length (sequences_of p)) × (length (sequences_in d) ≡ length (sequences_in d₀))

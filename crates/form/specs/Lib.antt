@@ -1,9 +1,11 @@
 pub mod Entries
+pub mod Named
 pub mod Draft
 pub mod Pairs
 pub mod SequenceImages
 pub mod FormulaImages
 pub mod Met
+pub mod Grid
 pub mod Refusals
 pub mod Limits
 pub mod Rewritten

@@ -1,12 +1,12 @@
 -- What a form place holds: the rewriting of a property, or the new form.
-use Rattle.std.specs.Prelude.{ℕ, Bool, true, false, ◌&&◌, ◌||◌, ◌==◌, nat_lt, slice_index_or}
+use Rattle.std.specs.Prelude.{ℕ, Bool, true, false, ◌&&◌, ◌||◌, ◌==◌, length, nat_lt, slice_index_or}
 use Rattle.std.proofs.Math.Decide.{ℕ_discrete}
 use Rattle.psl.specs.Syntax.{Formula, falsity, truth, weak, Condition-discrete, Sequence-discrete, Formula-discrete}
 use Rattle.psl.specs.Removal.{unclock}
 use Rattle.property.specs.declared.place.Property.{Property}
 use Rattle.property.specs.Place.{condition_trees, property_tree}
 use Rattle.form.specs.declared.draft.Draft as code
-use Rattle.form.specs.Draft.{formula_in}
+use Rattle.form.specs.Draft.{conditions_in, sequences_in, formulas_in, formula_in}
 use Rattle.form.specs.Limits.{conditions_needed, sequences_needed, formulas_needed}
 
 -- the property's tree, with condition 0 written into it as the clock
@@ -26,7 +26,7 @@ same_formula f g = answer (Formula-discrete (Condition-discrete ℕ_discrete) (S
 unfoldable pub rewrites : Property → code.Draft → ℕ → Bool
 rewrites p d root =
     same_formula (formula_in d root) (rewriting p)
-    && (d.counts.conditions == conditions_needed p && (d.counts.sequences == sequences_needed p && d.counts.formulas == formulas_needed p))
+    && (length (conditions_in d) == conditions_needed p && (length (sequences_in d) == sequences_needed p && length (formulas_in d) == formulas_needed p))
 
 -- the root is the weak condition true, and the property's rewriting is that of a new property
 unfoldable pub as_new : Property → code.Draft → ℕ → Bool
@@ -34,4 +34,4 @@ as_new p d root = same_formula (formula_in d root) (weak truth) && same_formula 
 
 -- the root is there, and it is either
 unfoldable pub made : Property → code.Draft → ℕ → Bool
-made p d root = nat_lt root d.counts.formulas && (rewrites p d root || as_new p d root)
+made p d root = nat_lt root (length (formulas_in d)) && (rewrites p d root || as_new p d root)

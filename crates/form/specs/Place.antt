@@ -16,19 +16,19 @@ use Rattle.form.specs.Made.{rewriting}
 
 -- the form's conditions
 unfoldable pub form_conditions : Form → List Condition
-form_conditions f = conditions_in f.draft
+form_conditions f = conditions_in f.rooted.draft
 
 -- the form's sequences
 unfoldable pub form_sequences : Form → List Sequence
-form_sequences f = sequences_in f.draft
+form_sequences f = sequences_in f.rooted.draft
 
 -- the form's formulas
 unfoldable pub form_formulas : Form → List Formula
-form_formulas f = formulas_in f.draft
+form_formulas f = formulas_in f.rooted.draft
 
 -- the number of the formula that the form is
 unfoldable pub form_root : Form → ℕ
-form_root f = f.root
+form_root f = f.rooted.root
 
 -- the property that the form was made from
 unfoldable pub source : Form → Property

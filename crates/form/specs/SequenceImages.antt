@@ -7,7 +7,7 @@ use Rattle.psl.specs.declared.entry.Sequence.TheVariants as s
 use Rattle.property.specs.declared.place.Property.{Property}
 use Rattle.property.specs.Place.{conditions_of, sequences_of, condition_trees, sequence_trees}
 use Rattle.form.specs.declared.draft.Draft as code
-use Rattle.form.specs.Draft.{ConditionIs, SequenceIs, Sound, Grows}
+use Rattle.form.specs.Draft.{conditions_in, sequences_in, formulas_in, ConditionIs, SequenceIs, Grows}
 use Rattle.form.specs.Pairs.{key, sequence_adds_conditions, sequence_adds_sequences, total}
 
 -- what clock removal makes of sequence i under clock c
@@ -35,12 +35,11 @@ SequencePlaced p d places i c = SequenceIs d (slice_index places (key i c)) (seq
 
 -- the image of sequence i under clock c was added, as number r
 pub record WroteSequence (p : Property) (i c : ℕ) (d e : code.Draft) (r : ℕ) : Type 0 where
-  pub sound : Sound e
   pub grows : Grows d e
   pub is : SequenceIs e r (sequence_image p i c)
-  pub count_c : e.counts.conditions ≡ d.counts.conditions + sequence_adds_conditions (slice_index_or (sequences_of p) i (s.Condition 0))
-  pub count_s : e.counts.sequences ≡ d.counts.sequences + sequence_adds_sequences (slice_index_or (sequences_of p) i (s.Condition 0))
-  pub count_f : e.counts.formulas ≡ d.counts.formulas
+  pub count_c : length (conditions_in e) ≡ length (conditions_in d) + sequence_adds_conditions (slice_index_or (sequences_of p) i (s.Condition 0))
+  pub count_s : length (sequences_in e) ≡ length (sequences_in d) + sequence_adds_sequences (slice_index_or (sequences_of p) i (s.Condition 0))
+  pub count_f : length (formulas_in e) ≡ length (formulas_in d)
 
 -- pair (i, c) is marked
 abbrev pub Marked : List Bool → ℕ → ℕ → Type 0
@@ -59,15 +58,14 @@ SequencesWritten p met d places n = (i c : ℕ) → c < 64 → key i c < n → M
 -- what stands after the pairs of sequences below key k were written
 abbrev pub SequencesStand : Property → List Bool → code.Draft → code.Draft → List ℕ → ℕ → Type 0
 SequencesStand p met d₀ d places k =
-    Sound d × Grows d₀ d × Carries p d × SequencesWritten p met d places k
-    × (d.counts.conditions ≡ d₀.counts.conditions + total (s.Condition 0) sequence_adds_conditions (sequences_of p) met k)
-    × (d.counts.sequences ≡ d₀.counts.sequences + total (s.Condition 0) sequence_adds_sequences (sequences_of p) met k)
-    × (length places ≡ 4096) × (d.counts.formulas ≡ d₀.counts.formulas)
+    Grows d₀ d × Carries p d × SequencesWritten p met d places k
+    × (length (conditions_in d) ≡ length (conditions_in d₀) + total (s.Condition 0) sequence_adds_conditions (sequences_of p) met k)
+    × (length (sequences_in d) ≡ length (sequences_in d₀) + total (s.Condition 0) sequence_adds_sequences (sequences_of p) met k)
+    × (length (formulas_in d) ≡ length (formulas_in d₀))
 
 -- a draft with the property's conditions and nothing else
 pub record Fresh (p : Property) (d : code.Draft) : Type 0 where
-  pub sound : Sound d
   pub carries : Carries p d
-  pub count_c : d.counts.conditions ≡ length (conditions_of p)
-  pub count_s : d.counts.sequences ≡ 0
-  pub count_f : d.counts.formulas ≡ 0
+  pub count_c : length (conditions_in d) ≡ length (conditions_of p)
+  pub count_s : length (sequences_in d) ≡ 0
+  pub count_f : length (formulas_in d) ≡ 0

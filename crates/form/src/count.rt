@@ -1,114 +1,137 @@
 // How many entries the met pairs add, and whether there is room for them.
 ghost use Rattle.std.proofs.Math.Option.{none, some};
-ghost use Rattle.std.specs.Prelude.{◌≡◌, ◌*◌, ◌≤◌, length, MatchResult};
+ghost use Rattle.std.specs.Prelude.{◌≡◌, ℕ, ◌*◌, ◌<◌, ◌≤◌, length, MatchResult};
 ghost use Rattle.answer.specs.Questions.{first_no};
 ghost use Rattle.psl.specs.declared.entry.Sequence.TheVariants.{Condition as Is};
 ghost use Rattle.psl.specs.declared.entry.Formula.TheVariants.{Strong};
-ghost use Rattle.property.specs.Place.{sequences_of, formulas_of};
+ghost use Rattle.form.specs.Grid.{cells_of, marks_of};
 ghost use Rattle.form.specs.Pairs.{sequence_adds_conditions, sequence_adds_sequences, formula_adds_conditions, formula_adds_formulas, total};
 ghost use Rattle.form.specs.Limits.{limits, conditions_needed, sequences_needed, formulas_needed};
-ghost use Rattle.form.specs.Met.{marks, met};
+ghost use Rattle.form.specs.Met.{met as met_of};
 
-use crate::entries::{formula_at, sequence_at};
+use crate::grid::{Grid, Marks};
 use crate::refusal::Refusal;
 use file::tables::Counts;
 use property::place::Property;
 use psl::entry::{Formula, Sequence};
 
-// The entries that the image of a sequence adds to those of its operands.
-fn sequence_adds(e: Sequence) -> (usize, usize)
-    ensures conditions { result.0 ≡ sequence_adds_conditions e }
-    ensures sequences { result.1 ≡ sequence_adds_sequences e }
-    ensures high_bound { (result.0 ≤ 2) × (result.1 ≤ 4) }
-{
-    match e {
-        Sequence::Condition(_) => (2, 4),
-        Sequence::At(_, _) => (0, 0),
-        Sequence::Concat(_, _) => (0, 1),
-        Sequence::Fusion(_, _) => (0, 1),
-        Sequence::Either(_, _) => (0, 1),
-        Sequence::Both(_, _) => (0, 1),
-        Sequence::Empty => (0, 1),
-        Sequence::Star(_) => (0, 1),
-    }
+// How many conditions are added, and how many entries of a section of sequences or formulas.
+#[derive(Clone, Copy)]
+pub(crate) struct Added {
+    pub(crate) conditions: usize,
+    pub(crate) entries: usize,
 }
 
-// The entries that the image of a formula adds to those of its parts.
-fn formula_adds(e: Formula) -> (usize, usize)
-    ensures conditions { result.0 ≡ formula_adds_conditions e }
-    ensures formulas { result.1 ≡ formula_adds_formulas e }
-    ensures high_bound { (result.0 ≤ 3) × (result.1 ≤ 7) }
-{
-    match e {
-        Formula::Strong(_) => (2, 3),
-        Formula::Weak(_) => (3, 4),
-        Formula::Next(_) => (1, 7),
-        Formula::Until(_, _) => (0, 6),
-        Formula::At(_, _) => (0, 0),
-        Formula::StrongSequence(_) => (0, 1),
-        Formula::WeakSequence(_) => (0, 1),
-        Formula::Not(_) => (0, 1),
-        Formula::And(_, _) => (0, 1),
-        Formula::Abort(_, _) => (0, 1),
-        Formula::Implies(_, _) => (0, 1),
-    }
+// An entry whose image adds entries to those of its operands' images.
+pub(crate) trait Adds: Copy {
+    // The entry that is read where there is none.
+    ghost first: { Self };
+
+    ghost adds_conditions: { Self → ℕ };
+
+    ghost adds_entries: { Self → ℕ };
+
+    fn adds(self) -> Added
+        ensures conditions { result.conditions ≡ adds_conditions self }
+        ensures entries { result.entries ≡ adds_entries self }
+        ensures high_bound { (result.conditions ≤ 3) × (result.entries ≤ 7) };
 }
 
-// The conditions and the sequences that the met pairs of sequences add.
-pub(crate) fn count_sequences(p: &Property, met: &[bool]) -> (usize, usize)
-    requires long { length met.now ≡ 4096 }
-    ensures conditions { result.0 ≡ total (Is 0) sequence_adds_conditions (sequences_of p.now) met.now (64 * length (sequences_of p.now)) }
-    ensures sequences { result.1 ≡ total (Is 0) sequence_adds_sequences (sequences_of p.now) met.now (64 * length (sequences_of p.now)) }
-    ensures high_bound { result.0 ≤ 8192 }
-{
-    let n = p.sequence_count();
-    let mut conditions = 0;
-    let mut sequences = 0;
-    for k in 0..64 * n {
-        if met[k] {
-            let more = sequence_adds(sequence_at(p, k / 64));
-            conditions += more.0;
-            sequences += more.1;
+impl Adds for Sequence {
+    ghost first = { Is 0 };
+
+    ghost adds_conditions = { sequence_adds_conditions };
+
+    ghost adds_entries = { sequence_adds_sequences };
+
+    fn adds(self) -> Added {
+        let (conditions, entries) = match self {
+            Sequence::Condition(_) => (2, 4),
+            Sequence::At(_, _) => (0, 0),
+            Sequence::Concat(_, _)
+            | Sequence::Fusion(_, _)
+            | Sequence::Either(_, _)
+            | Sequence::Both(_, _)
+            | Sequence::Empty
+            | Sequence::Star(_) => (0, 1),
+        };
+        Added {
+            conditions,
+            entries,
         }
     }
-    (conditions, sequences)
 }
 
-// The conditions and the formulas that the met pairs of formulas add.
-pub(crate) fn count_formulas(p: &Property, met: &[bool]) -> (usize, usize)
-    requires long { length met.now ≡ 4096 }
-    ensures conditions { result.0 ≡ total (Strong 0) formula_adds_conditions (formulas_of p.now) met.now (64 * length (formulas_of p.now)) }
-    ensures formulas { result.1 ≡ total (Strong 0) formula_adds_formulas (formulas_of p.now) met.now (64 * length (formulas_of p.now)) }
-    ensures high_bound { result.0 ≤ 12288 }
-{
-    let n = p.formula_count();
-    let mut conditions = 0;
-    let mut formulas = 0;
-    for k in 0..64 * n {
-        if met[k] {
-            let more = formula_adds(formula_at(p, k / 64));
-            conditions += more.0;
-            formulas += more.1;
+impl Adds for Formula {
+    ghost first = { Strong 0 };
+
+    ghost adds_conditions = { formula_adds_conditions };
+
+    ghost adds_entries = { formula_adds_formulas };
+
+    fn adds(self) -> Added {
+        let (conditions, entries) = match self {
+            Formula::Strong(_) => (2, 3),
+            Formula::Weak(_) => (3, 4),
+            Formula::Next(_) => (1, 7),
+            Formula::Until(_, _) => (0, 6),
+            Formula::At(_, _) => (0, 0),
+            Formula::StrongSequence(_)
+            | Formula::WeakSequence(_)
+            | Formula::Not(_)
+            | Formula::And(_, _)
+            | Formula::Abort(_, _)
+            | Formula::Implies(_, _) => (0, 1),
+        };
+        Added {
+            conditions,
+            entries,
         }
     }
-    (conditions, formulas)
+}
+
+// What the met pairs of these entries add in all.
+pub(crate) fn count_added<E: Adds>(entries: &[E], met: &Grid<bool>) -> Added
+    requires few { length entries.now ≤ 64 }
+    ensures conditions { result.conditions ≡ total E.Adds.first E.Adds.adds_conditions entries.now (cells_of met.now) (64 * length entries.now) }
+    ensures entries { result.entries ≡ total E.Adds.first E.Adds.adds_entries entries.now (cells_of met.now) (64 * length entries.now) }
+    ensures high_bound { result.conditions ≤ 12288 }
+{
+    let mut all = Added {
+        conditions: 0,
+        entries: 0,
+    };
+    for k in 0..64 * entries.len() {
+        if met.at(k) {
+            let more = entries[k / 64].adds();
+            all.conditions += more.conditions;
+            all.entries += more.entries;
+        }
+    }
+    all
 }
 
 // How many entries the form of a property has whose met pairs are marked.
-pub(crate) fn count(p: &Property, fm: &[bool], sm: &[bool]) -> Counts
-    requires long { (length fm.now ≡ 4096) × (length sm.now ≡ 4096) }
-    requires met { marks fm.now sm.now ≡ met p.now }
+pub(crate) fn count(p: &Property, met: &Marks) -> Counts
+    requires met { marks_of met.now ≡ met_of p.now }
     ensures conditions { result.conditions ≡ conditions_needed p.now }
     ensures sequences { result.sequences ≡ sequences_needed p.now }
     ensures formulas { result.formulas ≡ formulas_needed p.now }
 {
-    let of_sequences = count_sequences(p, sm);
-    let of_formulas = count_formulas(p, fm);
+    let of_sequences = count_added(p.sequences(), &met.sequences);
+    let of_formulas = count_added(p.formulas(), &met.formulas);
     Counts {
-        conditions: p.condition_count() + (of_sequences.0 + of_formulas.0),
-        sequences: of_sequences.1,
-        formulas: of_formulas.1,
+        conditions: p.condition_count() + (of_sequences.conditions + of_formulas.conditions),
+        sequences: of_sequences.entries,
+        formulas: of_formulas.entries,
     }
+}
+
+// Whether a table of the form has room for so many entries.
+fn fits(count: usize, refusal: Refusal) -> Result<(), Refusal>
+    ensures { MatchResult result (λ _. count ≤ 256) (λ e. (256 < count) × (e ≡ refusal)) }
+{
+    if count <= 256 { Ok(()) } else { Err(refusal) }
 }
 
 // Whether a form's tables have room for so many entries.
@@ -116,14 +139,7 @@ pub(crate) fn within_limits(counts: Counts) -> Result<(), Refusal>
     ensures { MatchResult result (λ _. first_no (limits counts.conditions counts.sequences counts.formulas) ≡ none)
         (λ e. first_no (limits counts.conditions counts.sequences counts.formulas) ≡ some e) }
 {
-    if counts.conditions > 256 {
-        return Err(Refusal::TooManyConditions);
-    }
-    if counts.sequences > 256 {
-        return Err(Refusal::TooManySequences);
-    }
-    if counts.formulas > 256 {
-        return Err(Refusal::TooManyFormulas);
-    }
-    Ok(())
+    fits(counts.conditions, Refusal::TooManyConditions)?;
+    fits(counts.sequences, Refusal::TooManySequences)?;
+    fits(counts.formulas, Refusal::TooManyFormulas)
 }

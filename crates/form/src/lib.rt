@@ -1,14 +1,15 @@
 // Clock-free forms: the rewritten tables of a property, and the place that keeps them.
 #![tactic(auto)]
 
+mod add;
 mod build;
 mod count;
 mod draft;
 mod entries;
+mod grid;
 mod mark;
 mod mark_formula;
 pub mod place;
-mod push;
 pub mod refusal;
 mod rewrite;
 mod write;

@@ -2,23 +2,18 @@
 ghost use Rattle.std.specs.Prelude.{◌≡◌};
 ghost use Rattle.form.specs.Refusals.{refusal_number};
 
-// The table of the form that would be too long.
-#[derive(Clone, Copy)]
+// The table of the form that would be too long, with the number of the question as documented.
+#[derive(Clone, Copy, Debug, PartialEq, Eq)]
 pub enum Refusal {
-    TooManyConditions,
-    TooManySequences,
-    TooManyFormulas,
+    TooManyConditions = 31,
+    TooManySequences = 32,
+    TooManyFormulas = 33,
 }
 
 impl Refusal {
-    // The number of the question, as documented.
     pub fn number(self) -> u8
         ensures { result ≡ refusal_number self }
     {
-        match self {
-            Refusal::TooManyConditions => 31,
-            Refusal::TooManySequences => 32,
-            Refusal::TooManyFormulas => 33,
-        }
+        self as u8
     }
 }

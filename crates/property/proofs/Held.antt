@@ -18,9 +18,21 @@ module _ (p : Property) where
   unfolding conditions_of
   some_conditions = (limits p.tables p.accepts).some_conditions
 
+  pub few_conditions : length (conditions_of p) ≤ 64
+  unfolding conditions_of
+  few_conditions = (limits p.tables p.accepts).few_conditions
+
+  pub few_sequences : length (sequences_of p) ≤ 64
+  unfolding sequences_of
+  few_sequences = (limits p.tables p.accepts).few_sequences
+
   pub some_formulas : 1 ≤ length (formulas_of p)
   unfolding formulas_of
   some_formulas = (limits p.tables p.accepts).some_formulas
+
+  pub few_formulas : length (formulas_of p) ≤ 64
+  unfolding formulas_of
+  few_formulas = (limits p.tables p.accepts).few_formulas
 
   -- each entry names what it may
   pub condition_fine : (i : ℕ) (e : Condition) → slice_get (conditions_of p) i ≡ Some e → condition_names i e ≡ true

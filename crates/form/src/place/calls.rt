@@ -1,32 +1,26 @@
 // What a form place is asked.
-ghost use Rattle.std.specs.Prelude.{◌≡◌, ◌<◌, ◌≤◌, [], ◌∷◌, length, take};
+#![tactic(auto, unfolding(crate::specs::Place::form_conditions, crate::specs::Place::form_sequences, crate::specs::Place::form_formulas, crate::specs::Place::form_root, crate::specs::Place::source))]
+
+ghost use Rattle.std.specs.Prelude.{◌≡◌, ◌<◌, [], ◌∷◌, length};
 ghost use Rattle.answer.specs.Questions.{Call};
 ghost use Rattle.psl.specs.declared.entry.Condition.TheVariants.{True};
 ghost use Rattle.psl.specs.declared.entry.Sequence.TheVariants.{Condition as Is};
 ghost use Rattle.psl.specs.declared.entry.Formula.TheVariants.{Strong, Weak};
 ghost use Rattle.file.specs.Operands.{condition_names, sequence_names, formula_names};
 ghost use Rattle.property.specs.Place.{conditions_of, sequences_of, formulas_of};
-ghost use Rattle.form.specs.Draft.{AllNamed};
+ghost use Rattle.form.specs.Named.{AllNamed};
 ghost use Rattle.form.specs.Limits.{questions};
 ghost use Rattle.form.specs.Met.{LeastClosed, met};
 ghost use Rattle.form.specs.Origins.{FromImages};
 ghost use Rattle.form.specs.Place.{form_conditions, form_sequences, form_formulas, form_root, form_tree, source, MadeFrom, Stands, Agrees};
 
-use crate::draft::Draft;
+use crate::draft::{Draft, Rooted};
 use crate::place::Form;
 use crate::refusal::Refusal;
 use crate::rewrite::form_of;
-use file::tables::Counts;
 use property::place::Property;
 use psl::entry::{Condition, Formula, Sequence};
-
-// The first `count` rows of a table.
-fn used<E>(table: &[E], count: usize) -> &[E]
-    requires { count ≤ length table.now }
-    ensures { result.now ≡ take count table.now }
-{
-    &table[0..count]
-}
+use table::table::Table;
 
 impl Form {
     // The weak condition true, which counts as made from a new property place.
@@ -39,17 +33,14 @@ impl Form {
     {
         Form {
             property: Property::new(),
-            draft: Draft {
-                counts: Counts {
-                    conditions: 1,
-                    sequences: 0,
-                    formulas: 1,
+            rooted: Rooted {
+                draft: Draft {
+                    conditions: Table::of(&[Condition::True], Condition::True),
+                    sequences: Table::new(Sequence::Empty),
+                    formulas: Table::of(&[Formula::Weak(0)], Formula::Weak(0)),
                 },
-                conditions: [Condition::True; 256],
-                sequences: [Sequence::Empty; 256],
-                formulas: [Formula::Weak(0); 256],
+                root: 0,
             },
-            root: 0,
         }
     }
 
@@ -58,11 +49,9 @@ impl Form {
         ensures made { Call (questions property.now) (λ _. MadeFrom property.now) self.old result self.new }
         ensures met { LeastClosed property.now (met property.now) }
     {
-        let made = form_of(property)?;
         *self = Form {
+            rooted: form_of(property)?,
             property: *property,
-            draft: made.0,
-            root: made.1,
         };
         Ok(())
     }
@@ -72,7 +61,7 @@ impl Form {
         ensures value { result.now ≡ form_conditions self.now }
         ensures names { AllNamed condition_names True result.now }
     {
-        used(&self.draft.conditions, self.draft.counts.conditions)
+        self.rooted.draft.conditions.as_slice()
     }
 
     // All sequences, each of which names what it may.
@@ -80,7 +69,7 @@ impl Form {
         ensures value { result.now ≡ form_sequences self.now }
         ensures names { AllNamed (sequence_names (length (form_conditions self.now))) (Is 0) result.now }
     {
-        used(&self.draft.sequences, self.draft.counts.sequences)
+        self.rooted.draft.sequences.as_slice()
     }
 
     // All formulas, each of which names what it may.
@@ -88,7 +77,7 @@ impl Form {
         ensures value { result.now ≡ form_formulas self.now }
         ensures names { AllNamed (formula_names (length (form_conditions self.now)) (length (form_sequences self.now))) (Strong 0) result.now }
     {
-        used(&self.draft.formulas, self.draft.counts.formulas)
+        self.rooted.draft.formulas.as_slice()
     }
 
     // The number of the formula that the form is: the rewriting of its source, or what says the same on every word.
@@ -99,6 +88,6 @@ impl Form {
         ensures agrees { Agrees self.now }
         ensures images { FromImages (form_tree self.now) }
     {
-        self.root
+        self.rooted.root
     }
 }

@@ -105,6 +105,7 @@ impl Property {
     // All conditions, each fit to stand after those before it.
     pub fn conditions(&self) -> &[Condition]
         ensures value { result.now ≡ conditions_of self.now }
+        ensures few { length result.now ≤ 64 }
         ensures fine { inspected condition_rules [] result.now ≡ true }
     {
         self.tables.conditions.as_slice()
@@ -113,6 +114,7 @@ impl Property {
     // All sequences, each fit to stand after those before it.
     pub fn sequences(&self) -> &[Sequence]
         ensures value { result.now ≡ sequences_of self.now }
+        ensures few { length result.now ≤ 64 }
         ensures fine { inspected (sequence_rules (length (conditions_of self.now))) [] result.now ≡ true }
     {
         self.tables.sequences.as_slice()
@@ -121,6 +123,7 @@ impl Property {
     // All formulas, each fit to stand after those before it.
     pub fn formulas(&self) -> &[Formula]
         ensures value { result.now ≡ formulas_of self.now }
+        ensures few { length result.now ≤ 64 }
         ensures fine { inspected (formula_rules (length (conditions_of self.now)) (length (sequences_of self.now))) [] result.now ≡ true }
     {
         self.tables.formulas.as_slice()

@@ -1,15 +1,26 @@
-use Rattle.std.proofs.Common.{length, take, sym, ap, ◌∙◌, arith, rules}
-use Rattle.form.proofs.MetPairs.{few_conditions}
-use Rattle.form.proofs.Begun.{fresh_is}
+use Rattle.std.proofs.Common.{◌≡◌, length, take, sym, ap, ◌∙◌, subst, arith}
+use Rattle.std.proofs.lemmas.List.{take_all}
+use Rattle.psl.specs.declared.entry.Condition.TheVariants.{True as first}
+use Rattle.table.specs.Rows.{rows_of}
+use Rattle.file.specs.Operands.{condition_names}
+use Rattle.property.specs.Place.{conditions_of}
+use Rattle.property.proofs.Held.{few_conditions}
+use Rattle.form.specs.Named.{AllNamed}
+use Rattle.form.proofs.Begun.{conditions_fine, fresh_is}
 use Rattle.form.proofs.rewrite.fresh.Goals as goal
 
-pub copy-requires : goal.copy-requires
-copy-requires c = omega (arith, ap length c.conditions-given.ensures.value, few_conditions c.args.p.now)
+pub invariant_of-result : goal.invariant_of-result
+invariant_of-result c =
+    let p = c.args.p.now in
+    let is : rows_of c.of.result ≡ conditions_of p = c.of.ensures.items ∙ ap (take 256) c.conditions.ensures.value ∙ take_all 256 (conditions_of p) (omega (arith, few_conditions p)) in
+    record {
+      conditions_named = subst (AllNamed condition_names first) (sym is) (conditions_fine p);
+      sequences_named = λ k h. absurd (omega (arith, h, ap length c.new.ensures.items));
+      formulas_named = λ k h. absurd (omega (arith, h, ap length c.new-2.ensures.items));
+    }
 
 pub returns : goal.returns
 returns c =
     let p = c.args.p.now in
-    let given = c.conditions-given.ensures.value in
-    let count = c.condition_count-d.ensures.value in
-    fresh_is p _ (ap (λ n. take n c.copy.new.table) (count ∙ ap length (sym given)) ∙ c.copy.ensures ∙ given) count
-    (search rules) (search rules) (search rules) (search rules) (search rules)
+    let is : rows_of c.of.result ≡ conditions_of p = c.of.ensures.items ∙ ap (take 256) c.conditions.ensures.value ∙ take_all 256 (conditions_of p) (omega (arith, few_conditions p)) in
+    fresh_is p _ is c.new.ensures.items c.new-2.ensures.items

@@ -1,11 +1,12 @@
 use Rattle.std.proofs.Common.{sym, refl, ap, ◌∙◌, subst, ap₂, arith}
+use Rattle.std.proofs.lemmas.Option.{get_or_from_slice_get}
 use Rattle.std.proofs.lemmas.Bool.{ltb-true}
 use Rattle.psl.specs.Syntax.{concat, fusion, either, both, star, condition}
 use Rattle.psl.specs.Removal.{unclock_sequence}
 use Rattle.psl.specs.declared.entry.Sequence.TheVariants as s
 use Rattle.form.specs.Draft.{SequenceIs}
 use Rattle.form.specs.SequenceImages.{sequence_image}
-use Rattle.form.specs.Pairs.{sequence_adds_conditions, sequence_adds_sequences}
+use Rattle.form.specs.Pairs.{key, sequence_adds_conditions, sequence_adds_sequences}
 use Rattle.form.proofs.Grown.{grows_none, sequence_as}
 use Rattle.form.proofs.SequenceImages.{wrote, ready_at, operand, image_is}
 use Rattle.form.proofs.write.write_sequence.Goals as goal
@@ -14,7 +15,6 @@ pub tick-requires : goal.tick-requires
 tick-requires c =
     let told = c.in-Condition.ensures in
     record {
-      sound = c.requires.sound;
       clock = (c.requires.carries c.args.c c.requires.clock).there;
       under = (c.requires.carries c.in-Condition.b (ltb-true _ _ told.names)).there;
       room = (omega (arith, c.requires.room.0, ap sequence_adds_conditions told.is), omega (arith, c.requires.room.1, ap sequence_adds_sequences told.is));
@@ -30,7 +30,6 @@ returns-in-Condition c =
     let clock = c.requires.carries k c.requires.clock in
     let under = c.requires.carries c.in-Condition.b (ltb-true _ _ told.names) in
     record {
-      sound = new.sound;
       grows = new.grows;
       is = sequence_as (ap₂ (λ t u. unclock_sequence t (condition u)) clock.is under.is ∙ sym (image_is p i k c.requires.there (s.Condition c.in-Condition.b) told)) new.is;
       count_c = omega (arith, new.counts.0, ap sequence_adds_conditions told.is);
@@ -46,10 +45,10 @@ returns-in-Concat c =
     let k = c.args.c in
     let told = c.in-Concat.ensures in
     let e = s.Concat c.in-Concat.a c.in-Concat.b in
-    let ready = ready_at p i k c.requires.there d c.args.places.now e told c.requires.ready in
+    let ready = ready_at p i k c.requires.there d c.args.places.now.cells e told c.requires.ready in
     wrote p i k c.requires.there d _ e told _ _ c.add_sequence.ensures
-    (ap₂ concat (operand p i k c.requires.there d c.args.places.now _ _ _ c.place.ensures ready.0)
-    (operand p i k c.requires.there d c.args.places.now _ _ _ c.place-in-Concat.ensures ready.1))
+    (ap₂ concat (operand p d c.args.places.now.cells _ _ _ c.get.ensures ready.0)
+    (operand p d c.args.places.now.cells _ _ _ c.get-in-Concat.ensures ready.1))
     refl refl
 
 pub returns-in-Fusion : goal.returns-in-Fusion
@@ -60,10 +59,10 @@ returns-in-Fusion c =
     let k = c.args.c in
     let told = c.in-Fusion.ensures in
     let e = s.Fusion c.in-Fusion.a c.in-Fusion.b in
-    let ready = ready_at p i k c.requires.there d c.args.places.now e told c.requires.ready in
+    let ready = ready_at p i k c.requires.there d c.args.places.now.cells e told c.requires.ready in
     wrote p i k c.requires.there d _ e told _ _ c.add_sequence-in-Fusion.ensures
-    (ap₂ fusion (operand p i k c.requires.there d c.args.places.now _ _ _ c.place-in-Fusion.ensures ready.0)
-    (operand p i k c.requires.there d c.args.places.now _ _ _ c.place-in-Fusion-2.ensures ready.1))
+    (ap₂ fusion (operand p d c.args.places.now.cells _ _ _ c.get-in-Fusion.ensures ready.0)
+    (operand p d c.args.places.now.cells _ _ _ c.get-in-Fusion-2.ensures ready.1))
     refl refl
 
 pub returns-in-Either : goal.returns-in-Either
@@ -74,10 +73,10 @@ returns-in-Either c =
     let k = c.args.c in
     let told = c.in-Either.ensures in
     let e = s.Either c.in-Either.a c.in-Either.b in
-    let ready = ready_at p i k c.requires.there d c.args.places.now e told c.requires.ready in
+    let ready = ready_at p i k c.requires.there d c.args.places.now.cells e told c.requires.ready in
     wrote p i k c.requires.there d _ e told _ _ c.add_sequence-in-Either.ensures
-    (ap₂ either (operand p i k c.requires.there d c.args.places.now _ _ _ c.place-in-Either.ensures ready.0)
-    (operand p i k c.requires.there d c.args.places.now _ _ _ c.place-in-Either-2.ensures ready.1))
+    (ap₂ either (operand p d c.args.places.now.cells _ _ _ c.get-in-Either.ensures ready.0)
+    (operand p d c.args.places.now.cells _ _ _ c.get-in-Either-2.ensures ready.1))
     refl refl
 
 pub returns-in-Both : goal.returns-in-Both
@@ -88,10 +87,10 @@ returns-in-Both c =
     let k = c.args.c in
     let told = c.in-Both.ensures in
     let e = s.Both c.in-Both.a c.in-Both.b in
-    let ready = ready_at p i k c.requires.there d c.args.places.now e told c.requires.ready in
+    let ready = ready_at p i k c.requires.there d c.args.places.now.cells e told c.requires.ready in
     wrote p i k c.requires.there d _ e told _ _ c.add_sequence-in-Both.ensures
-    (ap₂ both (operand p i k c.requires.there d c.args.places.now _ _ _ c.place-in-Both.ensures ready.0)
-    (operand p i k c.requires.there d c.args.places.now _ _ _ c.place-in-Both-2.ensures ready.1))
+    (ap₂ both (operand p d c.args.places.now.cells _ _ _ c.get-in-Both.ensures ready.0)
+    (operand p d c.args.places.now.cells _ _ _ c.get-in-Both-2.ensures ready.1))
     refl refl
 
 pub returns-in-Empty : goal.returns-in-Empty
@@ -106,9 +105,9 @@ returns-in-Star c =
     let k = c.args.c in
     let told = c.in-Star.ensures in
     let e = s.Star c.in-Star.a in
-    let ready = ready_at p i k c.requires.there d c.args.places.now e told c.requires.ready in
+    let ready = ready_at p i k c.requires.there d c.args.places.now.cells e told c.requires.ready in
     wrote p i k c.requires.there d _ e told _ _ c.add_sequence-in-Star.ensures
-    (ap star (operand p i k c.requires.there d c.args.places.now _ _ _ c.place-in-Star.ensures ready)) refl refl
+    (ap star (operand p d c.args.places.now.cells _ _ _ c.get-in-Star.ensures ready)) refl refl
 
 pub returns-in-At : goal.returns-in-At
 returns-in-At c =
@@ -118,11 +117,10 @@ returns-in-At c =
     let k = c.args.c in
     let told = c.in-At.ensures in
     let e = s.At c.in-At.a c.in-At.e in
-    let ready = ready_at p i k c.requires.there d c.args.places.now e told c.requires.ready in
+    let ready = ready_at p i k c.requires.there d c.args.places.now.cells e told c.requires.ready in
     record {
-      sound = c.requires.sound;
       grows = grows_none d;
-      is = subst (λ r. SequenceIs d r (sequence_image p i k)) (sym c.place-in-At.ensures) (sequence_as (sym (image_is p i k c.requires.there e told)) ready);
+      is = subst (λ r. SequenceIs d r (sequence_image p i k)) (get_or_from_slice_get c.args.places.now.cells (key c.in-At.a c.in-At.e) _ 0 c.get-in-At.ensures) (sequence_as (sym (image_is p i k c.requires.there e told)) ready);
       count_c = omega (arith, ap sequence_adds_conditions told.is);
       count_s = omega (arith, ap sequence_adds_sequences told.is);
       count_f = refl;

@@ -1,50 +1,56 @@
-use Rattle.std.proofs.Common.{◌+◌, ◌*◌, ◌<◌, length, sym, refl, subst, arith}
+use Rattle.std.proofs.Common.{◌+◌, ◌*◌, ◌<◌, false, length, refl, sym, ap, ◌∙◌, subst, arith}
+use Rattle.std.proofs.lemmas.Option.{get_or_from_slice_get}
 use Rattle.property.specs.Place.{sequences_of}
+use Rattle.property.proofs.Held.{few_conditions}
+use Rattle.form.specs.Grid.{cells_of}
 use Rattle.form.specs.SequenceImages.{SequencesStand}
 use Rattle.form.proofs.Grown.{grows_none}
-use Rattle.form.proofs.SequenceSteps.{step_yes, step_no, ready_here, room_here, inside}
+use Rattle.form.proofs.SequenceSteps.{step_yes, step_no, ready_here, room_here}
 use Rattle.form.proofs.write.write_sequences.Goals as goal
-use Rattle.form.proofs.write.write_sequences.Goals.{then-met-k, else-met-k}
+use Rattle.form.proofs.write.write_sequences.Goals.{then-at, else-at}
 
 pub loop-k-init : goal.loop-k-init
-loop-k-init c =
-    (c.requires.sound, grows_none c.args.d.now, c.requires.carries, (λ i c l h m. let z : ⊥ = omega arith in absurd z), omega arith, omega arith, c.requires.long, refl)
+loop-k-init c = (grows_none c.args.d.now, c.requires.carries, (λ i c l h m. let z : ⊥ = omega arith in absurd z), omega arith, omega arith, refl)
 
-pub write_sequence-r-requires : goal.write_sequence-r-requires
-write_sequence-r-requires c =
+pub write_sequence-r-requires-clause-clock : goal.write_sequence-r-requires-clause-clock
+write_sequence-r-requires-clause-clock c =
     let p = c.args.p.now in
-    let inv = c.loop-k.invariant in
     let k = c.loop-k.k in
-    let rs = sequences_of p in
-    let count = c.sequence_count-n.ensures in
-    let h : k < 64 * length rs = omega (arith, c.loop-k-test.true, count.value) in
-    let ready = ready_here p c.args.met.now _ _ _ k inv c.requires.closed c.if-met-k.true h (omega (arith, c.condition_count-m.ensures.value, c.condition_count-m.ensures.high_bound)) in
-    record {
-      long = inv.6;
-      sound = inv.0;
-      carries = inv.2;
-      there = inside k (length rs) h;
-      small = omega (arith, count.value, count.high_bound);
-      clock = ready.0;
-      few = omega (arith, c.condition_count-m.ensures.value, c.condition_count-m.ensures.high_bound);
-      ready = ready.1;
-      room = room_here p c.args.met.now _ _ _ k inv _ h c.if-met-k.true c.requires.room;
-    }
+    let marked = get_or_from_slice_get c.args.met.now.cells k _ false c.at.ensures ∙ c.if-at.true in
+    let h : k < 64 * length (sequences_of p) = omega (arith, c.loop-k-test.true, c.sequence_count-n.ensures.value) in
+    (ready_here p c.args.met.now.cells _ _ _ k c.loop-k.invariant c.requires.closed marked h (few_conditions p)).0
+
+pub write_sequence-r-requires-clause-ready : goal.write_sequence-r-requires-clause-ready
+write_sequence-r-requires-clause-ready c =
+    let p = c.args.p.now in
+    let k = c.loop-k.k in
+    let marked = get_or_from_slice_get c.args.met.now.cells k _ false c.at.ensures ∙ c.if-at.true in
+    let h : k < 64 * length (sequences_of p) = omega (arith, c.loop-k-test.true, c.sequence_count-n.ensures.value) in
+    (ready_here p c.args.met.now.cells _ _ _ k c.loop-k.invariant c.requires.closed marked h (few_conditions p)).1
+
+pub write_sequence-r-requires-clause-room : goal.write_sequence-r-requires-clause-room
+write_sequence-r-requires-clause-room c =
+    let p = c.args.p.now in
+    let k = c.loop-k.k in
+    let marked = get_or_from_slice_get c.args.met.now.cells k _ false c.at.ensures ∙ c.if-at.true in
+    let h : k < 64 * length (sequences_of p) = omega (arith, c.loop-k-test.true, c.sequence_count-n.ensures.value) in
+    room_here p c.args.met.now.cells _ _ _ k c.loop-k.invariant _ h marked c.requires.room
 
 pub loop-k-preserved : goal.loop-k-preserved
 loop-k-preserved c =
     let p = c.args.p.now in
-    let met = c.args.met.now in
+    let met = c.args.met.now.cells in
     let inv = c.loop-k.invariant in
     let k = c.loop-k.k in
-    let few : k < 4096 = omega (arith, c.loop-k-test.true, c.sequence_count-n.ensures.high_bound) in
-    elim c.if-met-k.branch [
-      | then-met-k w ↦
-          subst (λ d. SequencesStand p met c.args.d.now d c.if-met-k.places (k + 1)) (sym w.d-is)
-          (subst (λ ps. SequencesStand p met c.args.d.now w.write_sequence-r.new.d ps (k + 1)) (sym w.places-is)
-          (step_yes p met _ _ _ k inv _ _ w.if-met-k.true few w.write_sequence-r.ensures))
-      | else-met-k w ↦
-          subst (λ d. SequencesStand p met c.args.d.now d c.if-met-k.places (k + 1)) (sym w.d-is)
-          (subst (λ ps. SequencesStand p met c.args.d.now c.loop-k.d ps (k + 1)) (sym w.places-is)
-          (step_no p met _ _ _ k inv w.if-met-k.false))
+    let is = get_or_from_slice_get met k _ false c.at.ensures in
+    let room : k < length c.loop-k.places.cells = omega (arith, c.loop-k.places.long, c.loop-k-test.true, c.sequence_count-n.ensures.high_bound) in
+    elim c.if-at.branch [
+      | then-at w ↦
+          subst (λ d. SequencesStand p met c.args.d.now d c.if-at.places.cells (k + 1)) (sym w.d-is)
+          (subst (λ ps. SequencesStand p met c.args.d.now w.write_sequence-r.new.d ps (k + 1)) (sym (ap cells_of w.places-is ∙ w.put_at.ensures))
+          (step_yes p met _ _ _ k inv _ _ (is ∙ w.if-at.true) room w.write_sequence-r.ensures))
+      | else-at w ↦
+          subst (λ d. SequencesStand p met c.args.d.now d c.if-at.places.cells (k + 1)) (sym w.d-is)
+          (subst (λ ps. SequencesStand p met c.args.d.now c.loop-k.d ps (k + 1)) (sym (ap cells_of w.places-is))
+          (step_no p met _ _ _ k inv (is ∙ w.if-at.false)))
     ]

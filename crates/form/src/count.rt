@@ -10,6 +10,7 @@ ghost use Rattle.form.specs.Limits.{limits, conditions_needed, sequences_needed,
 ghost use Rattle.form.specs.Met.{met as met_of};
 
 use crate::grid::{Grid, Marks};
+use crate::pair::Pair;
 use crate::refusal::Refusal;
 use file::tables::Counts;
 use property::place::Property;
@@ -102,8 +103,9 @@ pub(crate) fn count_added<E: Adds>(entries: &[E], met: &Grid<bool>) -> Added
         entries: 0,
     };
     for k in 0..64 * entries.len() {
-        if met.at(k) {
-            let more = entries[k / 64].adds();
+        let pair = Pair::of(k);
+        if met.get(pair) {
+            let more = entries[pair.entry as usize].adds();
             all.conditions += more.conditions;
             all.entries += more.entries;
         }

@@ -6,16 +6,16 @@ ghost use Rattle.form.specs.Entries.{SequenceAt, FormulaAt};
 use property::place::Property;
 use psl::entry::{Formula, Sequence};
 
-pub(crate) fn sequence_at(property: &Property, i: usize) -> Sequence
+pub(crate) fn sequence_at(property: &Property, i: u16) -> Sequence
     requires { i < length (sequences_of property.now) }
     ensures { SequenceAt property.now i result }
 {
-    property.sequences()[i]
+    property.sequences()[i as usize]
 }
 
-pub(crate) fn formula_at(property: &Property, i: usize) -> Formula
+pub(crate) fn formula_at(property: &Property, i: u16) -> Formula
     requires { i < length (formulas_of property.now) }
     ensures { FormulaAt property.now i result }
 {
-    property.formulas()[i]
+    property.formulas()[i as usize]
 }

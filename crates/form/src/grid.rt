@@ -1,9 +1,10 @@
 // Values for the pairs of an entry and a clock.
-ghost use Rattle.std.specs.Prelude.{◌≡◌, ℕ, ◌<◌, ⊤, length};
+ghost use Rattle.std.specs.Prelude.{◌≡◌, ℕ, ⊤, length};
 
+use crate::pair::Pair;
 use std::alloc::AllocError;
 
-// A value for each pair of an entry and a clock, of both of which there are 64 at most.
+// A value for each pair.
 pub(crate) struct Grid<T> {
     cells: [T; 4096],
     ghost long: { length cells ≡ 4096 },
@@ -22,7 +23,7 @@ impl<T: Copy> Clone for Grid<T> {
 }
 
 impl<T: Copy> Grid<T> {
-    ghost use Rattle.std.specs.Prelude.{◌+◌, ◌*◌, replicate, slice_set, Some};
+    ghost use Rattle.std.specs.Prelude.{replicate, slice_set, Some};
     ghost use Rattle.std.specs.List.{slice_get};
     ghost use Rattle.form.specs.Pairs.{key};
     ghost use Rattle.form.specs.Grid.{cells_of};
@@ -36,36 +37,18 @@ impl<T: Copy> Grid<T> {
         }
     }
 
-    // The value of the pair with key k.
-    pub(crate) fn at(&self, k: usize) -> T
-        requires { k < 4096 }
-        ensures { slice_get (cells_of self.now) k ≡ Some result }
+    // The value of a pair.
+    pub(crate) fn get(&self, pair: Pair) -> T
+        ensures { slice_get (cells_of self.now) (key pair.entry pair.clock) ≡ Some result }
     {
-        self.cells[k]
+        self.cells[pair.key()]
     }
 
-    // Puts the value of the pair with key k.
-    pub(crate) fn put_at(&mut self, k: usize, value: T)
-        requires { k < 4096 }
-        ensures { cells_of self.new ≡ slice_set (cells_of self.old) k value }
+    // Puts the value of a pair.
+    pub(crate) fn put(&mut self, pair: Pair, value: T)
+        ensures { cells_of self.new ≡ slice_set (cells_of self.old) (key pair.entry pair.clock) value }
     {
-        self.cells[k] = value;
-    }
-
-    // The value of entry i under clock c.
-    pub(crate) fn get(&self, i: u16, c: usize) -> T
-        requires inside { (i < 64) × (c < 64) }
-        ensures { slice_get (cells_of self.now) (key i c) ≡ Some result }
-    {
-        self.at(64 * i as usize + c)
-    }
-
-    // Puts the value of entry i under clock c.
-    pub(crate) fn put(&mut self, i: u16, c: usize, value: T)
-        requires inside { (i < 64) × (c < 64) }
-        ensures { cells_of self.new ≡ slice_set (cells_of self.old) (key i c) value }
-    {
-        self.put_at(64 * i as usize + c, value);
+        self.cells[pair.key()] = value;
     }
 }
 

@@ -9,6 +9,7 @@ mod entries;
 mod grid;
 mod mark;
 mod mark_formula;
+mod pair;
 pub mod place;
 pub mod refusal;
 mod rewrite;

@@ -7,26 +7,27 @@ ghost use Rattle.form.specs.Met.{with_operands, meet_sequences};
 
 use crate::entries::sequence_at;
 use crate::grid::Grid;
+use crate::pair::Pair;
 use property::place::Property;
 use psl::entry::Sequence;
 
-// Marks the pairs of the operands of sequence i under clock c.
-fn mark_sequence(p: &Property, met: &mut Grid<bool>, i: usize, c: usize)
-    requires there { i < length (sequences_of p.now) }
-    requires small { (i < 64) × (c < 64) × (length (conditions_of p.now) ≤ 64) }
-    ensures { cells_of met.new ≡ with_operands (slice_index_or (sequences_of p.now) i (Is 0)) c (cells_of met.old) }
+// Marks the pairs of the operands of a pair.
+fn mark_sequence(p: &Property, met: &mut Grid<bool>, pair: Pair)
+    requires there { pair.entry < length (sequences_of p.now) }
+    requires few { length (conditions_of p.now) ≤ 64 }
+    ensures { cells_of met.new ≡ with_operands (slice_index_or (sequences_of p.now) pair.entry (Is 0)) pair.clock (cells_of met.old) }
 {
-    match sequence_at(p, i) {
+    match sequence_at(p, pair.entry) {
         Sequence::Condition(_) | Sequence::Empty => {}
         Sequence::Concat(a, b)
         | Sequence::Fusion(a, b)
         | Sequence::Either(a, b)
         | Sequence::Both(a, b) => {
-            met.put(a, c, true);
-            met.put(b, c, true);
+            met.put(pair.with(a), true);
+            met.put(pair.with(b), true);
         }
-        Sequence::Star(a) => met.put(a, c, true),
-        Sequence::At(a, d) => met.put(a, d as usize, true),
+        Sequence::Star(a) => met.put(pair.with(a), true),
+        Sequence::At(a, d) => met.put(Pair { entry: a, clock: d }, true),
     }
 }
 
@@ -37,8 +38,9 @@ pub(crate) fn mark_sequences(p: &Property, met: &mut Grid<bool>)
     let n = p.sequence_count();
     let _m = p.condition_count();
     for k in (0..64 * n).rev() {
-        if met.at(k) {
-            mark_sequence(p, met, k / 64, k % 64);
+        let pair = Pair::of(k);
+        if met.get(pair) {
+            mark_sequence(p, met, pair);
         }
     }
 }

@@ -1,5 +1,5 @@
 // Marks of the pairs of formulas that are met, and of all pairs.
-ghost use Rattle.std.specs.Prelude.{◌≡◌, ℕ, ◌+◌, ◌*◌, ◌<◌, ◌≤◌, length, slice_index_or};
+ghost use Rattle.std.specs.Prelude.{◌≡◌, ℕ, ◌+◌, ◌-◌, ◌*◌, ◌<◌, ◌≤◌, length, slice_index_or};
 ghost use Rattle.psl.specs.declared.entry.Formula.TheVariants.{Strong};
 ghost use Rattle.property.specs.Place.{conditions_of, sequences_of, formulas_of};
 ghost use Rattle.form.specs.Grid.{marks_of};
@@ -8,28 +8,33 @@ ghost use Rattle.form.specs.Met.{with_parts, meet_formulas, met};
 use crate::entries::formula_at;
 use crate::grid::{Grid, Marks};
 use crate::mark::mark_sequences;
+use crate::pair::Pair;
 use property::place::Property;
 use psl::entry::Formula;
 
-// Marks the pairs of the parts of formula i under clock c.
-fn mark_formula(p: &Property, met: &mut Marks, i: usize, c: usize)
-    requires there { i < length (formulas_of p.now) }
-    requires small { (i < 64) × (c < 64) × (length (conditions_of p.now) ≤ 64) × (length (sequences_of p.now) ≤ 64) }
-    ensures { marks_of met.new ≡ with_parts (slice_index_or (formulas_of p.now) i (Strong 0)) c (marks_of met.old) }
+// Marks the pairs of the parts of a pair.
+fn mark_formula(p: &Property, met: &mut Marks, pair: Pair)
+    requires there { pair.entry < length (formulas_of p.now) }
+    requires few { (length (conditions_of p.now) ≤ 64) × (length (sequences_of p.now) ≤ 64) }
+    ensures { marks_of met.new ≡ with_parts (slice_index_or (formulas_of p.now) pair.entry (Strong 0)) pair.clock (marks_of met.old) }
 {
-    match formula_at(p, i) {
+    match formula_at(p, pair.entry) {
         Formula::Strong(_) | Formula::Weak(_) => {}
-        Formula::StrongSequence(r) | Formula::WeakSequence(r) => met.sequences.put(r, c, true),
-        Formula::Not(f) | Formula::Next(f) | Formula::Abort(f, _) => met.formulas.put(f, c, true),
+        Formula::StrongSequence(r) | Formula::WeakSequence(r) => met
+            .sequences
+            .put(pair.with(r), true),
+        Formula::Not(f) | Formula::Next(f) | Formula::Abort(f, _) => met
+            .formulas
+            .put(pair.with(f), true),
         Formula::And(f, g) | Formula::Until(f, g) => {
-            met.formulas.put(f, c, true);
-            met.formulas.put(g, c, true);
+            met.formulas.put(pair.with(f), true);
+            met.formulas.put(pair.with(g), true);
         }
         Formula::Implies(r, g) => {
-            met.sequences.put(r, c, true);
-            met.formulas.put(g, c, true);
+            met.sequences.put(pair.with(r), true);
+            met.formulas.put(pair.with(g), true);
         }
-        Formula::At(f, d) => met.formulas.put(f, d as usize, true),
+        Formula::At(f, d) => met.formulas.put(Pair { entry: f, clock: d }, true),
     }
 }
 
@@ -41,9 +46,21 @@ pub(crate) fn mark_formulas(p: &Property, met: &mut Marks)
     let _m = p.condition_count();
     let _l = p.sequence_count();
     for k in (0..64 * n).rev() {
-        if met.formulas.at(k) {
-            mark_formula(p, met, k / 64, k % 64);
+        let pair = Pair::of(k);
+        if met.formulas.get(pair) {
+            mark_formula(p, met, pair);
         }
+    }
+}
+
+// The property with condition 0.
+pub(crate) fn root_pair(p: &Property) -> Pair
+    ensures entry { result.entry ≡ length (formulas_of p.now) - 1 }
+    ensures clock { result.clock ≡ 0 }
+{
+    Pair {
+        entry: p.formula_count() as u16 - 1,
+        clock: 0,
     }
 }
 
@@ -55,7 +72,7 @@ pub(crate) fn met_pairs(p: &Property) -> Marks
         formulas: Grid::new(false),
         sequences: Grid::new(false),
     };
-    marks.formulas.put(p.formula_count() as u16 - 1, 0, true);
+    marks.formulas.put(root_pair(p), true);
     mark_formulas(p, &mut marks);
     mark_sequences(p, &mut marks.sequences);
     marks

@@ -11,7 +11,7 @@ ghost use Rattle.form.specs.Rewritten.{RoomFor, Rewritten, Rewrites};
 use crate::count::{count, within_limits};
 use crate::draft::{Draft, Rooted};
 use crate::grid::Marks;
-use crate::mark_formula::met_pairs;
+use crate::mark_formula::{met_pairs, root_pair};
 use crate::refusal::Refusal;
 use crate::write::write_sequences;
 use crate::write_formula::write_formulas;
@@ -39,7 +39,7 @@ fn rewrite(p: &Property, met: &Marks) -> Rooted
     let mut draft = fresh(p);
     let of_sequences = write_sequences(p, &met.sequences, &mut draft);
     let of_formulas = write_formulas(p, met, &mut draft, &of_sequences);
-    let root = of_formulas.get(p.formula_count() as u16 - 1, 0);
+    let root = of_formulas.get(root_pair(p));
     Rooted { draft, root }
 }
 

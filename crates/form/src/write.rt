@@ -10,44 +10,41 @@ ghost use Rattle.form.specs.SequenceImages.{Carries, ForOperands, SequencePlaced
 use crate::draft::Draft;
 use crate::entries::sequence_at;
 use crate::grid::Grid;
+use crate::pair::Pair;
 use property::place::Property;
 use psl::entry::Sequence;
 
-// Adds the image of sequence i under clock c.
-pub(crate) fn write_sequence(
-    p: &Property,
-    d: &mut Draft,
-    places: &Grid<u16>,
-    i: usize,
-    c: usize,
-) -> u16
+// Adds the image of a pair.
+pub(crate) fn write_sequence(p: &Property, d: &mut Draft, places: &Grid<u16>, pair: Pair) -> u16
     requires carries { Carries p.now d.old }
-    requires there { i < length (sequences_of p.now) }
-    requires small { i < 64 }
-    requires clock { c < length (conditions_of p.now) }
+    requires there { pair.entry < length (sequences_of p.now) }
+    requires clock { pair.clock < length (conditions_of p.now) }
     requires few { length (conditions_of p.now) ≤ 64 }
-    requires ready { ForOperands (SequencePlaced p.now d.old (cells_of places.now)) (slice_index_or (sequences_of p.now) i (Is 0)) c }
-    requires room { (length (conditions_in d.old) + sequence_adds_conditions (slice_index_or (sequences_of p.now) i (Is 0)) ≤ 256) × (length (sequences_in d.old) + sequence_adds_sequences (slice_index_or (sequences_of p.now) i (Is 0)) ≤ 256) }
-    ensures { WroteSequence p.now i c d.old d.new result }
+    requires ready { ForOperands (SequencePlaced p.now d.old (cells_of places.now)) (slice_index_or (sequences_of p.now) pair.entry (Is 0)) pair.clock }
+    requires room { (length (conditions_in d.old) + sequence_adds_conditions (slice_index_or (sequences_of p.now) pair.entry (Is 0)) ≤ 256) × (length (sequences_in d.old) + sequence_adds_sequences (slice_index_or (sequences_of p.now) pair.entry (Is 0)) ≤ 256) }
+    ensures { WroteSequence p.now pair.entry pair.clock d.old d.new result }
 {
-    match sequence_at(p, i) {
-        Sequence::Condition(b) => d.tick(c as u16, b),
+    match sequence_at(p, pair.entry) {
+        Sequence::Condition(b) => d.tick(pair.clock, b),
         Sequence::Concat(a, b) => d.add_sequence(Sequence::Concat(
-            places.get(a, c),
-            places.get(b, c),
+            places.get(pair.with(a)),
+            places.get(pair.with(b)),
         )),
         Sequence::Fusion(a, b) => d.add_sequence(Sequence::Fusion(
-            places.get(a, c),
-            places.get(b, c),
+            places.get(pair.with(a)),
+            places.get(pair.with(b)),
         )),
         Sequence::Either(a, b) => d.add_sequence(Sequence::Either(
-            places.get(a, c),
-            places.get(b, c),
+            places.get(pair.with(a)),
+            places.get(pair.with(b)),
         )),
-        Sequence::Both(a, b) => d.add_sequence(Sequence::Both(places.get(a, c), places.get(b, c))),
+        Sequence::Both(a, b) => d.add_sequence(Sequence::Both(
+            places.get(pair.with(a)),
+            places.get(pair.with(b)),
+        )),
         Sequence::Empty => d.add_sequence(Sequence::Empty),
-        Sequence::Star(a) => d.add_sequence(Sequence::Star(places.get(a, c))),
-        Sequence::At(a, e) => places.get(a, e as usize),
+        Sequence::Star(a) => d.add_sequence(Sequence::Star(places.get(pair.with(a)))),
+        Sequence::At(a, e) => places.get(Pair { entry: a, clock: e }),
     }
 }
 
@@ -63,9 +60,10 @@ pub(crate) fn write_sequences(p: &Property, met: &Grid<bool>, d: &mut Draft) -> 
     let _m = p.condition_count();
     let mut places = Grid::new(0);
     for k in 0..64 * n {
-        if met.at(k) {
-            let r = write_sequence(p, d, &places, k / 64, k % 64);
-            places.put_at(k, r);
+        let pair = Pair::of(k);
+        if met.get(pair) {
+            let r = write_sequence(p, d, &places, pair);
+            places.put(pair, r);
         }
     }
     places

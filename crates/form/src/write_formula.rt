@@ -11,39 +11,44 @@ ghost use Rattle.form.specs.Pairs.{formula_adds_conditions, formula_adds_formula
 use crate::draft::Draft;
 use crate::entries::formula_at;
 use crate::grid::{Grid, Marks};
+use crate::pair::Pair;
 use property::place::Property;
 use psl::entry::Formula;
 
-// Adds the image of formula i under clock c.
+// Adds the image of a pair.
 pub(crate) fn write_formula(
     p: &Property,
     d: &mut Draft,
     rs: &Grid<u16>,
     fs: &Grid<u16>,
-    i: usize,
-    c: usize,
+    pair: Pair,
 ) -> u16
     requires carries { Carries p.now d.old }
-    requires there { i < length (formulas_of p.now) }
-    requires small { i < 64 }
-    requires clock { c < length (conditions_of p.now) }
+    requires there { pair.entry < length (formulas_of p.now) }
+    requires clock { pair.clock < length (conditions_of p.now) }
     requires few { (length (conditions_of p.now) ≤ 64) × (length (sequences_of p.now) ≤ 64) }
-    requires ready { ForParts (FormulaPlaced p.now d.old (cells_of fs.now)) (SequencePlaced p.now d.old (cells_of rs.now)) (slice_index_or (formulas_of p.now) i (Strong 0)) c }
-    requires room { Room d.old (formula_adds_conditions (slice_index_or (formulas_of p.now) i (Strong 0))) (formula_adds_formulas (slice_index_or (formulas_of p.now) i (Strong 0))) }
-    ensures { WroteFormula p.now i c d.old d.new result }
+    requires ready { ForParts (FormulaPlaced p.now d.old (cells_of fs.now)) (SequencePlaced p.now d.old (cells_of rs.now)) (slice_index_or (formulas_of p.now) pair.entry (Strong 0)) pair.clock }
+    requires room { Room d.old (formula_adds_conditions (slice_index_or (formulas_of p.now) pair.entry (Strong 0))) (formula_adds_formulas (slice_index_or (formulas_of p.now) pair.entry (Strong 0))) }
+    ensures { WroteFormula p.now pair.entry pair.clock d.old d.new result }
 {
-    match formula_at(p, i) {
-        Formula::Strong(b) => d.add_strong(c as u16, b),
-        Formula::Weak(b) => d.add_weak(c as u16, b),
-        Formula::StrongSequence(r) => d.add_formula(Formula::StrongSequence(rs.get(r, c))),
-        Formula::WeakSequence(r) => d.add_formula(Formula::WeakSequence(rs.get(r, c))),
-        Formula::Not(f) => d.add_formula(Formula::Not(fs.get(f, c))),
-        Formula::And(f, g) => d.add_formula(Formula::And(fs.get(f, c), fs.get(g, c))),
-        Formula::Next(f) => d.add_next(c as u16, fs.get(f, c)),
-        Formula::Until(f, g) => d.add_until(c as u16, fs.get(f, c), fs.get(g, c)),
-        Formula::Abort(f, b) => d.add_formula(Formula::Abort(fs.get(f, c), b)),
-        Formula::Implies(r, g) => d.add_formula(Formula::Implies(rs.get(r, c), fs.get(g, c))),
-        Formula::At(f, e) => fs.get(f, e as usize),
+    match formula_at(p, pair.entry) {
+        Formula::Strong(b) => d.add_strong(pair.clock, b),
+        Formula::Weak(b) => d.add_weak(pair.clock, b),
+        Formula::StrongSequence(r) => d.add_formula(Formula::StrongSequence(rs.get(pair.with(r)))),
+        Formula::WeakSequence(r) => d.add_formula(Formula::WeakSequence(rs.get(pair.with(r)))),
+        Formula::Not(f) => d.add_formula(Formula::Not(fs.get(pair.with(f)))),
+        Formula::And(f, g) => d.add_formula(Formula::And(
+            fs.get(pair.with(f)),
+            fs.get(pair.with(g)),
+        )),
+        Formula::Next(f) => d.add_next(pair.clock, fs.get(pair.with(f))),
+        Formula::Until(f, g) => d.add_until(pair.clock, fs.get(pair.with(f)), fs.get(pair.with(g))),
+        Formula::Abort(f, b) => d.add_formula(Formula::Abort(fs.get(pair.with(f)), b)),
+        Formula::Implies(r, g) => d.add_formula(Formula::Implies(
+            rs.get(pair.with(r)),
+            fs.get(pair.with(g)),
+        )),
+        Formula::At(f, e) => fs.get(Pair { entry: f, clock: e }),
     }
 }
 
@@ -65,9 +70,10 @@ pub(crate) fn write_formulas(
     let _l = p.sequence_count();
     let mut places = Grid::new(0);
     for k in 0..64 * n {
-        if met.formulas.at(k) {
-            let r = write_formula(p, d, sequences, &places, k / 64, k % 64);
-            places.put_at(k, r);
+        let pair = Pair::of(k);
+        if met.formulas.get(pair) {
+            let r = write_formula(p, d, sequences, &places, pair);
+            places.put(pair, r);
         }
     }
     places

@@ -1,5 +1,6 @@
-use Rattle.std.proofs.Common.{◌≡◌, ◌*◌, true, length, set, ap, ◌∙◌, ap₂, arith}
+use Rattle.std.proofs.Common.{◌≡◌, ◌-◌, ◌*◌, true, length, set, ap, ◌∙◌, ap₂}
 use Rattle.property.specs.Place.{sequences_of, formulas_of}
+use Rattle.form.specs.Pairs.{key}
 use Rattle.form.specs.Grid.{cells_of, marks_of}
 use Rattle.form.specs.Met.{marks, meet_formulas, meet_sequences, root_marked, formulas_met, met}
 use Rattle.form.proofs.mark_formula.met_pairs.Goals as goal
@@ -9,7 +10,7 @@ unfolding met formulas_met
 returns c =
     let p = c.args.p.now in
     let start : marks (cells_of c.put.new.self) (cells_of c.new-2.result) ≡ root_marked p =
-    ap₂ marks (c.put.ensures ∙ ap₂ (λ xs j. set xs j true) c.new.ensures (omega (arith, c.formula_count.ensures.value, c.formula_count.ensures.low_bound, c.formula_count.ensures.high_bound))) c.new-2.ensures
+    ap₂ marks ((rw (c.root_pair.ensures.entry, c.root_pair.ensures.clock) at c.put.ensures) ∙ ap (λ xs. set xs (key (length (formulas_of p) - 1) 0) true) c.new.ensures) c.new-2.ensures
     in
     let made : marks_of c.mark_formulas.new.met ≡ formulas_met p =
     c.mark_formulas.ensures ∙ ap (meet_formulas (formulas_of p) (64 * length (formulas_of p))) start

@@ -1,4 +1,4 @@
-use Rattle.std.proofs.Common.{◌-◌, ◌*◌, ◌<◌, length, get_or, sym, ap, ◌∙◌, subst, arith}
+use Rattle.std.proofs.Common.{◌-◌, ◌*◌, ◌<◌, length, sym, ap, subst, arith}
 use Rattle.std.proofs.lemmas.Option.{get_or_from_slice_get}
 use Rattle.psl.specs.declared.entry.Sequence.TheVariants as s
 use Rattle.psl.specs.declared.entry.Formula.TheVariants as f
@@ -68,12 +68,11 @@ returns c =
     let places = c.write_formulas-of_formulas.result.cells in
     let root : Marked c.args.met.now.formulas.cells (length (formulas_of p) - 1) 0 = subst (λ x. Marked x (length (formulas_of p) - 1) 0) (sym is_f) (met_least p).closed.root in
     let inside : key (length (formulas_of p) - 1) 0 < m = omega (arith, some_formulas p) in
-    let count = c.formula_count.ensures in
     record {
       count_c = omega (arith, stand.3, low.3, begun.count_c, from_c, more_c);
       count_s = omega (arith, stand.6, low.4, begun.count_s, from_s);
       count_f = omega (arith, stand.4, low.5, begun.count_f, more_f);
       is = subst (λ r. FormulaIs c.write_formulas-of_formulas.new.d r (formula_image p (length (formulas_of p) - 1) 0))
-          (ap (λ j. get_or places j 0) (omega (arith, count.value, count.low_bound, count.high_bound)) ∙ get_or_from_slice_get places _ _ 0 c.get-root.ensures)
+          (get_or_from_slice_get places _ _ 0 (rw (c.root_pair.ensures.entry, c.root_pair.ensures.clock) at c.get-root.ensures))
           (stand.2 (length (formulas_of p) - 1) 0 (omega arith) inside root);
     }

@@ -15,7 +15,7 @@ pub tick-requires : goal.tick-requires
 tick-requires c =
     let told = c.in-Condition.ensures in
     record {
-      clock = (c.requires.carries c.args.c c.requires.clock).there;
+      clock = (c.requires.carries c.args.pair.clock c.requires.clock).there;
       under = (c.requires.carries c.in-Condition.b (ltb-true _ _ told.names)).there;
       room = (omega (arith, c.requires.room.0, ap sequence_adds_conditions told.is), omega (arith, c.requires.room.1, ap sequence_adds_sequences told.is));
     }
@@ -23,8 +23,8 @@ tick-requires c =
 pub returns-in-Condition : goal.returns-in-Condition
 returns-in-Condition c =
     let p = c.args.p.now in
-    let i = c.args.i in
-    let k = c.args.c in
+    let i = c.args.pair.entry in
+    let k = c.args.pair.clock in
     let told = c.in-Condition.ensures in
     let new = c.tick.ensures in
     let clock = c.requires.carries k c.requires.clock in
@@ -41,80 +41,80 @@ pub returns-in-Concat : goal.returns-in-Concat
 returns-in-Concat c =
     let p = c.args.p.now in
     let d = c.args.d.now in
-    let i = c.args.i in
-    let k = c.args.c in
+    let i = c.args.pair.entry in
+    let k = c.args.pair.clock in
     let told = c.in-Concat.ensures in
     let e = s.Concat c.in-Concat.a c.in-Concat.b in
     let ready = ready_at p i k c.requires.there d c.args.places.now.cells e told c.requires.ready in
     wrote p i k c.requires.there d _ e told _ _ c.add_sequence.ensures
-    (ap₂ concat (operand p d c.args.places.now.cells _ _ _ c.get.ensures ready.0)
-    (operand p d c.args.places.now.cells _ _ _ c.get-in-Concat.ensures ready.1))
+    (ap₂ concat (operand p d c.args.places.now.cells _ _ _ (rw (c.with.ensures.entry, c.with.ensures.clock) at c.get.ensures) ready.0)
+    (operand p d c.args.places.now.cells _ _ _ (rw (c.with-in-Concat.ensures.entry, c.with-in-Concat.ensures.clock) at c.get-in-Concat.ensures) ready.1))
     refl refl
 
 pub returns-in-Fusion : goal.returns-in-Fusion
 returns-in-Fusion c =
     let p = c.args.p.now in
     let d = c.args.d.now in
-    let i = c.args.i in
-    let k = c.args.c in
+    let i = c.args.pair.entry in
+    let k = c.args.pair.clock in
     let told = c.in-Fusion.ensures in
     let e = s.Fusion c.in-Fusion.a c.in-Fusion.b in
     let ready = ready_at p i k c.requires.there d c.args.places.now.cells e told c.requires.ready in
     wrote p i k c.requires.there d _ e told _ _ c.add_sequence-in-Fusion.ensures
-    (ap₂ fusion (operand p d c.args.places.now.cells _ _ _ c.get-in-Fusion.ensures ready.0)
-    (operand p d c.args.places.now.cells _ _ _ c.get-in-Fusion-2.ensures ready.1))
+    (ap₂ fusion (operand p d c.args.places.now.cells _ _ _ (rw (c.with-in-Fusion.ensures.entry, c.with-in-Fusion.ensures.clock) at c.get-in-Fusion.ensures) ready.0)
+    (operand p d c.args.places.now.cells _ _ _ (rw (c.with-in-Fusion-2.ensures.entry, c.with-in-Fusion-2.ensures.clock) at c.get-in-Fusion-2.ensures) ready.1))
     refl refl
 
 pub returns-in-Either : goal.returns-in-Either
 returns-in-Either c =
     let p = c.args.p.now in
     let d = c.args.d.now in
-    let i = c.args.i in
-    let k = c.args.c in
+    let i = c.args.pair.entry in
+    let k = c.args.pair.clock in
     let told = c.in-Either.ensures in
     let e = s.Either c.in-Either.a c.in-Either.b in
     let ready = ready_at p i k c.requires.there d c.args.places.now.cells e told c.requires.ready in
     wrote p i k c.requires.there d _ e told _ _ c.add_sequence-in-Either.ensures
-    (ap₂ either (operand p d c.args.places.now.cells _ _ _ c.get-in-Either.ensures ready.0)
-    (operand p d c.args.places.now.cells _ _ _ c.get-in-Either-2.ensures ready.1))
+    (ap₂ either (operand p d c.args.places.now.cells _ _ _ (rw (c.with-in-Either.ensures.entry, c.with-in-Either.ensures.clock) at c.get-in-Either.ensures) ready.0)
+    (operand p d c.args.places.now.cells _ _ _ (rw (c.with-in-Either-2.ensures.entry, c.with-in-Either-2.ensures.clock) at c.get-in-Either-2.ensures) ready.1))
     refl refl
 
 pub returns-in-Both : goal.returns-in-Both
 returns-in-Both c =
     let p = c.args.p.now in
     let d = c.args.d.now in
-    let i = c.args.i in
-    let k = c.args.c in
+    let i = c.args.pair.entry in
+    let k = c.args.pair.clock in
     let told = c.in-Both.ensures in
     let e = s.Both c.in-Both.a c.in-Both.b in
     let ready = ready_at p i k c.requires.there d c.args.places.now.cells e told c.requires.ready in
     wrote p i k c.requires.there d _ e told _ _ c.add_sequence-in-Both.ensures
-    (ap₂ both (operand p d c.args.places.now.cells _ _ _ c.get-in-Both.ensures ready.0)
-    (operand p d c.args.places.now.cells _ _ _ c.get-in-Both-2.ensures ready.1))
+    (ap₂ both (operand p d c.args.places.now.cells _ _ _ (rw (c.with-in-Both.ensures.entry, c.with-in-Both.ensures.clock) at c.get-in-Both.ensures) ready.0)
+    (operand p d c.args.places.now.cells _ _ _ (rw (c.with-in-Both-2.ensures.entry, c.with-in-Both-2.ensures.clock) at c.get-in-Both-2.ensures) ready.1))
     refl refl
 
 pub returns-in-Empty : goal.returns-in-Empty
 returns-in-Empty c =
-    wrote c.args.p.now c.args.i c.args.c c.requires.there c.args.d.now _ s.Empty c.in-Empty.ensures _ _ c.add_sequence-in-Empty.ensures refl refl refl
+    wrote c.args.p.now c.args.pair.entry c.args.pair.clock c.requires.there c.args.d.now _ s.Empty c.in-Empty.ensures _ _ c.add_sequence-in-Empty.ensures refl refl refl
 
 pub returns-in-Star : goal.returns-in-Star
 returns-in-Star c =
     let p = c.args.p.now in
     let d = c.args.d.now in
-    let i = c.args.i in
-    let k = c.args.c in
+    let i = c.args.pair.entry in
+    let k = c.args.pair.clock in
     let told = c.in-Star.ensures in
     let e = s.Star c.in-Star.a in
     let ready = ready_at p i k c.requires.there d c.args.places.now.cells e told c.requires.ready in
     wrote p i k c.requires.there d _ e told _ _ c.add_sequence-in-Star.ensures
-    (ap star (operand p d c.args.places.now.cells _ _ _ c.get-in-Star.ensures ready)) refl refl
+    (ap star (operand p d c.args.places.now.cells _ _ _ (rw (c.with-in-Star.ensures.entry, c.with-in-Star.ensures.clock) at c.get-in-Star.ensures) ready)) refl refl
 
 pub returns-in-At : goal.returns-in-At
 returns-in-At c =
     let p = c.args.p.now in
     let d = c.args.d.now in
-    let i = c.args.i in
-    let k = c.args.c in
+    let i = c.args.pair.entry in
+    let k = c.args.pair.clock in
     let told = c.in-At.ensures in
     let e = s.At c.in-At.a c.in-At.e in
     let ready = ready_at p i k c.requires.there d c.args.places.now.cells e told c.requires.ready in

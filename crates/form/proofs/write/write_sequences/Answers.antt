@@ -7,7 +7,7 @@ use Rattle.form.specs.SequenceImages.{SequencesStand}
 use Rattle.form.proofs.Grown.{grows_none}
 use Rattle.form.proofs.SequenceSteps.{step_yes, step_no, ready_here, room_here}
 use Rattle.form.proofs.write.write_sequences.Goals as goal
-use Rattle.form.proofs.write.write_sequences.Goals.{then-at, else-at}
+use Rattle.form.proofs.write.write_sequences.Goals.{then-get, else-get}
 
 pub loop-k-init : goal.loop-k-init
 loop-k-init c = (grows_none c.args.d.now, c.requires.carries, (λ i c l h m. let z : ⊥ = omega arith in absurd z), omega arith, omega arith, refl)
@@ -16,25 +16,25 @@ pub write_sequence-r-requires-clause-clock : goal.write_sequence-r-requires-clau
 write_sequence-r-requires-clause-clock c =
     let p = c.args.p.now in
     let k = c.loop-k.k in
-    let marked = get_or_from_slice_get c.args.met.now.cells k _ false c.at.ensures ∙ c.if-at.true in
+    let marked = get_or_from_slice_get c.args.met.now.cells k _ false (rw c.of-pair.ensures.same at c.get.ensures) ∙ c.if-get.true in
     let h : k < 64 * length (sequences_of p) = omega (arith, c.loop-k-test.true, c.sequence_count-n.ensures.value) in
-    (ready_here p c.args.met.now.cells _ _ _ k c.loop-k.invariant c.requires.closed marked h (few_conditions p)).0
+    rw c.of-pair.ensures.clock ((ready_here p c.args.met.now.cells _ _ _ k c.loop-k.invariant c.requires.closed marked h (few_conditions p)).0)
 
 pub write_sequence-r-requires-clause-ready : goal.write_sequence-r-requires-clause-ready
 write_sequence-r-requires-clause-ready c =
     let p = c.args.p.now in
     let k = c.loop-k.k in
-    let marked = get_or_from_slice_get c.args.met.now.cells k _ false c.at.ensures ∙ c.if-at.true in
+    let marked = get_or_from_slice_get c.args.met.now.cells k _ false (rw c.of-pair.ensures.same at c.get.ensures) ∙ c.if-get.true in
     let h : k < 64 * length (sequences_of p) = omega (arith, c.loop-k-test.true, c.sequence_count-n.ensures.value) in
-    (ready_here p c.args.met.now.cells _ _ _ k c.loop-k.invariant c.requires.closed marked h (few_conditions p)).1
+    rw (c.of-pair.ensures.entry, c.of-pair.ensures.clock) ((ready_here p c.args.met.now.cells _ _ _ k c.loop-k.invariant c.requires.closed marked h (few_conditions p)).1)
 
 pub write_sequence-r-requires-clause-room : goal.write_sequence-r-requires-clause-room
 write_sequence-r-requires-clause-room c =
     let p = c.args.p.now in
     let k = c.loop-k.k in
-    let marked = get_or_from_slice_get c.args.met.now.cells k _ false c.at.ensures ∙ c.if-at.true in
+    let marked = get_or_from_slice_get c.args.met.now.cells k _ false (rw c.of-pair.ensures.same at c.get.ensures) ∙ c.if-get.true in
     let h : k < 64 * length (sequences_of p) = omega (arith, c.loop-k-test.true, c.sequence_count-n.ensures.value) in
-    room_here p c.args.met.now.cells _ _ _ k c.loop-k.invariant _ h marked c.requires.room
+    rw c.of-pair.ensures.entry (room_here p c.args.met.now.cells _ _ _ k c.loop-k.invariant _ h marked c.requires.room)
 
 pub loop-k-preserved : goal.loop-k-preserved
 loop-k-preserved c =
@@ -42,15 +42,15 @@ loop-k-preserved c =
     let met = c.args.met.now.cells in
     let inv = c.loop-k.invariant in
     let k = c.loop-k.k in
-    let is = get_or_from_slice_get met k _ false c.at.ensures in
+    let is = get_or_from_slice_get met k _ false (rw c.of-pair.ensures.same at c.get.ensures) in
     let room : k < length c.loop-k.places.cells = omega (arith, c.loop-k.places.long, c.loop-k-test.true, c.sequence_count-n.ensures.high_bound) in
-    elim c.if-at.branch [
-      | then-at w ↦
-          subst (λ d. SequencesStand p met c.args.d.now d c.if-at.places.cells (k + 1)) (sym w.d-is)
-          (subst (λ ps. SequencesStand p met c.args.d.now w.write_sequence-r.new.d ps (k + 1)) (sym (ap cells_of w.places-is ∙ w.put_at.ensures))
-          (step_yes p met _ _ _ k inv _ _ (is ∙ w.if-at.true) room w.write_sequence-r.ensures))
-      | else-at w ↦
-          subst (λ d. SequencesStand p met c.args.d.now d c.if-at.places.cells (k + 1)) (sym w.d-is)
+    elim c.if-get.branch [
+      | then-get w ↦
+          subst (λ d. SequencesStand p met c.args.d.now d c.if-get.places.cells (k + 1)) (sym w.d-is)
+          (subst (λ ps. SequencesStand p met c.args.d.now w.write_sequence-r.new.d ps (k + 1)) (sym (ap cells_of w.places-is ∙ (rw c.of-pair.ensures.same at w.put.ensures)))
+          (step_yes p met _ _ _ k inv _ _ (is ∙ w.if-get.true) room (rw (c.of-pair.ensures.entry, c.of-pair.ensures.clock) at w.write_sequence-r.ensures)))
+      | else-get w ↦
+          subst (λ d. SequencesStand p met c.args.d.now d c.if-get.places.cells (k + 1)) (sym w.d-is)
           (subst (λ ps. SequencesStand p met c.args.d.now c.loop-k.d ps (k + 1)) (sym (ap cells_of w.places-is))
-          (step_no p met _ _ _ k inv (is ∙ w.if-at.false)))
+          (step_no p met _ _ _ k inv (is ∙ w.if-get.false)))
     ]

@@ -21,7 +21,7 @@ pub add_strong-requires : goal.add_strong-requires
 add_strong-requires c =
     let told = c.in-Strong.ensures in
     record {
-      clock = (c.requires.carries c.args.c c.requires.clock).there;
+      clock = (c.requires.carries c.args.pair.clock c.requires.clock).there;
       under = (c.requires.carries c.in-Strong.b (ltb-true _ _ told.names)).there;
       room = (omega (arith, c.requires.room.0, ap formula_adds_conditions told.is), omega (arith, c.requires.room.1, ap formula_adds_formulas told.is));
     }
@@ -30,7 +30,7 @@ pub add_weak-requires : goal.add_weak-requires
 add_weak-requires c =
     let told = c.in-Weak.ensures in
     record {
-      clock = (c.requires.carries c.args.c c.requires.clock).there;
+      clock = (c.requires.carries c.args.pair.clock c.requires.clock).there;
       under = (c.requires.carries c.in-Weak.b (ltb-true _ _ told.names)).there;
       room = (omega (arith, c.requires.room.0, ap formula_adds_conditions told.is), omega (arith, c.requires.room.1, ap formula_adds_formulas told.is));
     }
@@ -38,19 +38,19 @@ add_weak-requires c =
 pub add_formula-requires-in-Abort : goal.add_formula-requires-in-Abort
 add_formula-requires-in-Abort c =
     let told = c.in-Abort.ensures in
-    let ready = ready_at c.args.p.now c.args.i c.args.c c.requires.there c.args.d.now c.args.rs.now.cells c.args.fs.now.cells (f.Abort c.in-Abort.f c.in-Abort.b) told c.requires.ready in
-    let named = and_parts (ltb c.in-Abort.f c.args.i) _ told.names in
+    let ready = ready_at c.args.p.now c.args.pair.entry c.args.pair.clock c.requires.there c.args.d.now c.args.rs.now.cells c.args.fs.now.cells (f.Abort c.in-Abort.f c.in-Abort.b) told c.requires.ready in
+    let named = and_parts (ltb c.in-Abort.f c.args.pair.entry) _ told.names in
     record {
       room = omega (arith, c.requires.room.1, ap formula_adds_formulas told.is);
-      names = and_from _ _ (lt-ltb _ _ (subst (λ x. x < length (formulas_in c.args.d.now)) (get_or_from_slice_get c.args.fs.now.cells (key c.in-Abort.f c.args.c) _ 0 c.get-in-Abort.ensures) ready.there)) (lt-ltb _ _ (c.requires.carries c.in-Abort.b (ltb-true _ _ named.1)).there);
+      names = and_from _ _ (lt-ltb _ _ (subst (λ x. x < length (formulas_in c.args.d.now)) (get_or_from_slice_get c.args.fs.now.cells (key c.in-Abort.f c.args.pair.clock) _ 0 (rw (c.with-in-Abort.ensures.entry, c.with-in-Abort.ensures.clock) at c.get-in-Abort.ensures)) ready.there)) (lt-ltb _ _ (c.requires.carries c.in-Abort.b (ltb-true _ _ named.1)).there);
     }
 
 pub returns-in-Strong : goal.returns-in-Strong
 returns-in-Strong c =
     let p = c.args.p.now in
     let d = c.args.d.now in
-    let i = c.args.i in
-    let k = c.args.c in
+    let i = c.args.pair.entry in
+    let k = c.args.pair.clock in
     let rs = c.args.rs.now.cells in
     let fs = c.args.fs.now.cells in
     let there = c.requires.there in
@@ -64,8 +64,8 @@ pub returns-in-Weak : goal.returns-in-Weak
 returns-in-Weak c =
     let p = c.args.p.now in
     let d = c.args.d.now in
-    let i = c.args.i in
-    let k = c.args.c in
+    let i = c.args.pair.entry in
+    let k = c.args.pair.clock in
     let rs = c.args.rs.now.cells in
     let fs = c.args.fs.now.cells in
     let there = c.requires.there in
@@ -79,64 +79,64 @@ pub returns-in-StrongSequence : goal.returns-in-StrongSequence
 returns-in-StrongSequence c =
     let p = c.args.p.now in
     let d = c.args.d.now in
-    let i = c.args.i in
-    let k = c.args.c in
+    let i = c.args.pair.entry in
+    let k = c.args.pair.clock in
     let rs = c.args.rs.now.cells in
     let fs = c.args.fs.now.cells in
     let there = c.requires.there in
     let told = c.in-StrongSequence.ensures in
     let e = f.StrongSequence c.in-StrongSequence.r in
     let ready = ready_at p i k there d rs fs e told c.requires.ready in
-    wrote p i k there d _ e told _ _ c.add_formula.ensures (ap strong_sequence (operand p d rs _ _ _ c.get.ensures (ready))) refl refl
+    wrote p i k there d _ e told _ _ c.add_formula.ensures (ap strong_sequence (operand p d rs _ _ _ (rw (c.with.ensures.entry, c.with.ensures.clock) at c.get.ensures) (ready))) refl refl
 
 pub returns-in-WeakSequence : goal.returns-in-WeakSequence
 returns-in-WeakSequence c =
     let p = c.args.p.now in
     let d = c.args.d.now in
-    let i = c.args.i in
-    let k = c.args.c in
+    let i = c.args.pair.entry in
+    let k = c.args.pair.clock in
     let rs = c.args.rs.now.cells in
     let fs = c.args.fs.now.cells in
     let there = c.requires.there in
     let told = c.in-WeakSequence.ensures in
     let e = f.WeakSequence c.in-WeakSequence.r in
     let ready = ready_at p i k there d rs fs e told c.requires.ready in
-    wrote p i k there d _ e told _ _ c.add_formula-in-WeakSequence.ensures (ap weak_sequence (operand p d rs _ _ _ c.get-in-WeakSequence.ensures (ready))) refl refl
+    wrote p i k there d _ e told _ _ c.add_formula-in-WeakSequence.ensures (ap weak_sequence (operand p d rs _ _ _ (rw (c.with-in-WeakSequence.ensures.entry, c.with-in-WeakSequence.ensures.clock) at c.get-in-WeakSequence.ensures) (ready))) refl refl
 
 pub returns-in-Not : goal.returns-in-Not
 returns-in-Not c =
     let p = c.args.p.now in
     let d = c.args.d.now in
-    let i = c.args.i in
-    let k = c.args.c in
+    let i = c.args.pair.entry in
+    let k = c.args.pair.clock in
     let rs = c.args.rs.now.cells in
     let fs = c.args.fs.now.cells in
     let there = c.requires.there in
     let told = c.in-Not.ensures in
     let e = f.Not c.in-Not.f in
     let ready = ready_at p i k there d rs fs e told c.requires.ready in
-    wrote p i k there d _ e told _ _ c.add_formula-in-Not.ensures (ap negated (part p d fs _ _ _ c.get-in-Not.ensures (ready))) refl refl
+    wrote p i k there d _ e told _ _ c.add_formula-in-Not.ensures (ap negated (part p d fs _ _ _ (rw (c.with-in-Not.ensures.entry, c.with-in-Not.ensures.clock) at c.get-in-Not.ensures) (ready))) refl refl
 
 pub returns-in-And : goal.returns-in-And
 returns-in-And c =
     let p = c.args.p.now in
     let d = c.args.d.now in
-    let i = c.args.i in
-    let k = c.args.c in
+    let i = c.args.pair.entry in
+    let k = c.args.pair.clock in
     let rs = c.args.rs.now.cells in
     let fs = c.args.fs.now.cells in
     let there = c.requires.there in
     let told = c.in-And.ensures in
     let e = f.And c.in-And.f c.in-And.g in
     let ready = ready_at p i k there d rs fs e told c.requires.ready in
-    wrote p i k there d _ e told _ _ c.add_formula-in-And.ensures (ap₂ conjoined (part p d fs _ _ _ c.get-in-And.ensures ready.0) (part p d fs _ _ _ c.get-in-And-2.ensures ready.1)) refl refl
+    wrote p i k there d _ e told _ _ c.add_formula-in-And.ensures (ap₂ conjoined (part p d fs _ _ _ (rw (c.with-in-And.ensures.entry, c.with-in-And.ensures.clock) at c.get-in-And.ensures) ready.0) (part p d fs _ _ _ (rw (c.with-in-And-2.ensures.entry, c.with-in-And-2.ensures.clock) at c.get-in-And-2.ensures) ready.1)) refl refl
 
 pub returns-in-Next : goal.returns-in-Next
 returns-in-Next c =
     let p = c.args.p.now in
     let d = c.args.d.now in
-    let i = c.args.i in
-    let k = c.args.c in
+    let i = c.args.pair.entry in
+    let k = c.args.pair.clock in
     let rs = c.args.rs.now.cells in
     let fs = c.args.fs.now.cells in
     let there = c.requires.there in
@@ -144,14 +144,14 @@ returns-in-Next c =
     let e = f.Next c.in-Next.f in
     let ready = ready_at p i k there d rs fs e told c.requires.ready in
     let clock = c.requires.carries k c.requires.clock in
-    built p i k there d _ e told _ _ _ _ c.add_next.ensures (ap₂ (λ t x. on_tick_of t (next (on_tick_of t x))) clock.is (part p d fs _ _ _ c.get-in-Next.ensures (ready))) refl refl
+    built p i k there d _ e told _ _ _ _ c.add_next.ensures (ap₂ (λ t x. on_tick_of t (next (on_tick_of t x))) clock.is (part p d fs _ _ _ (rw (c.with-in-Next.ensures.entry, c.with-in-Next.ensures.clock) at c.get-in-Next.ensures) (ready))) refl refl
 
 pub returns-in-Until : goal.returns-in-Until
 returns-in-Until c =
     let p = c.args.p.now in
     let d = c.args.d.now in
-    let i = c.args.i in
-    let k = c.args.c in
+    let i = c.args.pair.entry in
+    let k = c.args.pair.clock in
     let rs = c.args.rs.now.cells in
     let fs = c.args.fs.now.cells in
     let there = c.requires.there in
@@ -160,14 +160,14 @@ returns-in-Until c =
     let ready = ready_at p i k there d rs fs e told c.requires.ready in
     let clock = c.requires.carries k c.requires.clock in
     built p i k there d _ e told _ _ _ _ c.add_until.ensures
-    (until_same clock.is (part p d fs _ _ _ c.get-in-Until.ensures ready.0) (part p d fs _ _ _ c.get-in-Until-2.ensures ready.1)) refl refl
+    (until_same clock.is (part p d fs _ _ _ (rw (c.with-in-Until.ensures.entry, c.with-in-Until.ensures.clock) at c.get-in-Until.ensures) ready.0) (part p d fs _ _ _ (rw (c.with-in-Until-2.ensures.entry, c.with-in-Until-2.ensures.clock) at c.get-in-Until-2.ensures) ready.1)) refl refl
 
 pub returns-in-Abort : goal.returns-in-Abort
 returns-in-Abort c =
     let p = c.args.p.now in
     let d = c.args.d.now in
-    let i = c.args.i in
-    let k = c.args.c in
+    let i = c.args.pair.entry in
+    let k = c.args.pair.clock in
     let rs = c.args.rs.now.cells in
     let fs = c.args.fs.now.cells in
     let there = c.requires.there in
@@ -175,28 +175,28 @@ returns-in-Abort c =
     let e = f.Abort c.in-Abort.f c.in-Abort.b in
     let ready = ready_at p i k there d rs fs e told c.requires.ready in
     let under = c.requires.carries c.in-Abort.b (ltb-true _ _ (and_parts (ltb c.in-Abort.f i) _ told.names).1) in
-    wrote p i k there d _ e told _ _ c.add_formula-in-Abort.ensures (ap₂ abort (part p d fs _ _ _ c.get-in-Abort.ensures (ready)) under.is) refl refl
+    wrote p i k there d _ e told _ _ c.add_formula-in-Abort.ensures (ap₂ abort (part p d fs _ _ _ (rw (c.with-in-Abort.ensures.entry, c.with-in-Abort.ensures.clock) at c.get-in-Abort.ensures) (ready)) under.is) refl refl
 
 pub returns-in-Implies : goal.returns-in-Implies
 returns-in-Implies c =
     let p = c.args.p.now in
     let d = c.args.d.now in
-    let i = c.args.i in
-    let k = c.args.c in
+    let i = c.args.pair.entry in
+    let k = c.args.pair.clock in
     let rs = c.args.rs.now.cells in
     let fs = c.args.fs.now.cells in
     let there = c.requires.there in
     let told = c.in-Implies.ensures in
     let e = f.Implies c.in-Implies.r c.in-Implies.g in
     let ready = ready_at p i k there d rs fs e told c.requires.ready in
-    wrote p i k there d _ e told _ _ c.add_formula-in-Implies.ensures (ap₂ implies (operand p d rs _ _ _ c.get-in-Implies.ensures ready.0) (part p d fs _ _ _ c.get-in-Implies-2.ensures ready.1)) refl refl
+    wrote p i k there d _ e told _ _ c.add_formula-in-Implies.ensures (ap₂ implies (operand p d rs _ _ _ (rw (c.with-in-Implies.ensures.entry, c.with-in-Implies.ensures.clock) at c.get-in-Implies.ensures) ready.0) (part p d fs _ _ _ (rw (c.with-in-Implies-2.ensures.entry, c.with-in-Implies-2.ensures.clock) at c.get-in-Implies-2.ensures) ready.1)) refl refl
 
 pub returns-in-At : goal.returns-in-At
 returns-in-At c =
     let p = c.args.p.now in
     let d = c.args.d.now in
-    let i = c.args.i in
-    let k = c.args.c in
+    let i = c.args.pair.entry in
+    let k = c.args.pair.clock in
     let rs = c.args.rs.now.cells in
     let fs = c.args.fs.now.cells in
     let there = c.requires.there in

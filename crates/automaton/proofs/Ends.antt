@@ -15,7 +15,7 @@ use Rattle.psl.proofs.Tests.{and_in, and_out, same_test}
 use Rattle.automaton.specs.declared.view.View.{View}
 use Rattle.automaton.specs.Moves.{ended}
 use Rattle.automaton.specs.Views.{place, behind, row, bare, starts_in, EndedIn}
-use Rattle.automaton.proofs.Moves.{any_none, any_factor, two_of, any_two}
+use Rattle.automaton.proofs.Moves.{any_none, ended_none, any_factor, two_of, any_two}
 use Rattle.automaton.proofs.PartMoves.{ended_same, behind_starts}
 use Rattle.automaton.proofs.Views.{row_place}
 
@@ -81,5 +81,4 @@ module _ (k : Clock) (r s : Sequence) (v : View) (S : List Places) where
 
 -- no state, and no end
 pub none_ended : (k : Clock) (r : Sequence) (v : View) (S : List Places) (found : Places) → states k r ≡ 0 → ((x : ℕ) → member found x ≡ false) → EndedIn k r v S found
-none_ended k r v S found e is x =
-    is x ∙ sym (same_test (ended k r (starts_in S v k r x)) false (λ t. let (p, y) = any_out k r _ t in let h = number_below k r p in absurd (omega arith)) (λ t. absurd t))
+none_ended k r v S found e is x = is x ∙ sym (ended_none k r (starts_in S v k r x) e)

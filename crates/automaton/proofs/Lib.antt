@@ -9,3 +9,4 @@ pub mod ConditionMoves
 pub mod Ends
 pub mod Follow
 pub mod Arrive
+pub mod Standing

@@ -1,245 +1,184 @@
 // The states of a sequence, by number: which are ends, where a letter leads from the start, and from which tops go on to an end.
-ghost use Rattle.std.specs.Prelude.{◌≡◌, ℕ, ◌*◌, ◌/◌, ◌%◌, ◌<◌, ◌≤◌, Bool, true, false, not, ◌&&◌, length};
-ghost use Rattle.psl.specs.Automaton.{states as states_of, single as SingleOf};
-ghost use Rattle.psl.specs.Numbered.{numbered_final, numbered_init, numbered_live, numbered_leaf_init, numbered_leaf_final, numbered_leaf_live};
+ghost use Rattle.std.specs.Prelude.{◌≡◌, ℕ, ◌*◌, ◌/◌, ◌%◌, ◌<◌};
+ghost use Rattle.psl.specs.Automaton.{single as single_of};
+ghost use Rattle.psl.specs.Numbered.{numbered_final, numbered_init, numbered_live, numbered_leaf_init};
 ghost use Rattle.psl.specs.OptionalClock.{ticks as ticks_of};
-ghost use Rattle.psl.specs.Letter.{satisfies as satisfies_of};
-ghost use Rattle.psl.specs.Syntax.{atom, negation};
-ghost use Rattle.automaton.specs.Automata.{entries_of};
-ghost use Rattle.automaton.specs.Clocks.{clock_of, letter_at};
-ghost use Rattle.automaton.specs.Nodes.{capped};
-ghost use Rattle.automaton.specs.Trees.{tree};
+ghost use Rattle.psl.specs.Syntax.{atom};
+ghost use Rattle.automaton.specs.Clocks.{clock_of, letter_in};
+ghost use Rattle.automaton.specs.Parts.{clock_in, sequence_of, size};
 
-use crate::automata::Automata;
-use crate::clock::Clock;
-use crate::table::Truth;
-use psl::entry::Sequence;
+use crate::part::{Part, Shape};
+use crate::word::Letter;
 
-// Whether the letter at the place is where a tick ends.
-pub(crate) fn ticks(clock: Clock, truth: Truth, place: usize) -> bool
-    ensures value { result ≡ ticks_of (clock_of clock) (letter_at truth.entry.own.now truth.entry.other.now place) }
+// Whether the letter is where a tick ends.
+fn ticks(clock: Option<u16>, letter: Letter) -> bool
+    ensures value { result ≡ ticks_of (clock_of clock) (letter_in letter.entry) }
 {
     match clock {
-        Clock::Free => true,
-        Clock::On(c) => truth.satisfies(place, c),
+        None => true,
+        Some(c) => letter.satisfies(c),
     }
 }
 
 // From the start of a condition, whether the letter may lead to its state `q`.
-fn leaf_starts(clock: Clock, b: u16, truth: Truth, place: usize, q: usize) -> bool
-    ensures value { result ≡ numbered_leaf_init (clock_of clock) (atom b) (letter_at truth.entry.own.now truth.entry.other.now place) q }
+fn leaf_starts(clock: Option<u16>, b: u16, letter: Letter, q: usize) -> bool
+    ensures value { result ≡ numbered_leaf_init (clock_of clock) (atom b) (letter_in letter.entry) q }
 {
     match clock {
-        Clock::Free => truth.satisfies(place, b),
-        Clock::On(c) => {
+        None => letter.satisfies(b),
+        Some(c) => {
             if q == 0 {
-                !truth.mirror_satisfies(place, c)
+                !letter.mirror_satisfies(c)
             } else {
-                truth.satisfies(place, c) & truth.satisfies(place, b)
+                letter.satisfies(c) & letter.satisfies(b)
             }
         }
     }
 }
 
-impl Automata {
-    // How many states sequence `i` has.
-    pub(crate) fn states(&self, i: usize, clock: Clock) -> usize
-        requires there { i < length (entries_of self.now) }
-        requires few { states_of (clock_of clock) (tree (entries_of self.now) i) ≤ 240 }
-        ensures value { result ≡ states_of (clock_of clock) (tree (entries_of self.now) i) }
+impl<'a> Part<'a> {
+    // The two states that make up state `p` of the pairs whose second part is this one, where there are `n` first parts.
+    fn pair(self, n: usize, p: usize) -> (usize, usize)
+        requires state { p < n * size self }
+        ensures first { result.0 ≡ p / size self.entry }
+        ensures second { result.1 ≡ p % size self.entry }
+        ensures below_first { result.0 < n }
+        ensures below_second { result.1 < size self.entry }
     {
-        let node = self.node(i);
-        match clock {
-            Clock::Free => node.free,
-            Clock::On(_) => node.clocked,
-        }
-    }
-
-    // The two states that make up state `p` of a && b.
-    fn pair(&self, a: usize, b: usize, clock: Clock, p: usize) -> (usize, usize)
-        requires first { a < length (entries_of self.now) }
-        requires second { b < length (entries_of self.now) }
-        requires few { states_of (clock_of clock) (tree (entries_of self.now) a) * states_of (clock_of clock) (tree (entries_of self.now) b) ≤ 240 }
-        requires state { p < states_of (clock_of clock) (tree (entries_of self.now) a) * states_of (clock_of clock) (tree (entries_of self.now) b) }
-        ensures first { result.0 ≡ p / states_of (clock_of clock) (tree (entries_of self.now) b) }
-        ensures second { result.1 ≡ p % states_of (clock_of clock) (tree (entries_of self.now) b) }
-        ensures below_first { result.0 < states_of (clock_of clock) (tree (entries_of self.now) a) }
-        ensures below_second { result.1 < states_of (clock_of clock) (tree (entries_of self.now) b) }
-        ensures few_first { states_of (clock_of clock) (tree (entries_of self.now) a) ≤ 240 }
-        ensures few_second { states_of (clock_of clock) (tree (entries_of self.now) b) ≤ 240 }
-    {
-        let m = self.states(b, clock);
+        let m = self.states();
         (p / m, p % m)
     }
 
-    // Whether a match of sequence `i` may end in its state `p`.
-    pub(crate) fn is_final(&self, i: usize, clock: Clock, p: usize) -> bool
-        requires there { i < length (entries_of self.now) }
-        requires few { states_of (clock_of clock) (tree (entries_of self.now) i) ≤ 240 }
-        requires state { p < states_of (clock_of clock) (tree (entries_of self.now) i) }
-        ensures value { result ≡ numbered_final (clock_of clock) (tree (entries_of self.now) i) p }
+    // Whether a match may end in state `p`.
+    pub(crate) fn is_final(self, p: usize) -> bool
+        requires state { p < size self }
+        ensures value { result ≡ numbered_final (clock_in self.entry) (sequence_of self.entry) p }
     {
-        match self.node(i).entry {
-            Sequence::Condition(_) => match clock {
-                Clock::Free => true,
-                Clock::On(_) => p == 1,
-            },
-            Sequence::Concat(a, b) => {
-                let n = self.states(a as usize, clock);
+        match self.shape() {
+            Shape::Stateless => false,
+            Shape::Condition(_) => self.clock.is_none() | (p == 1),
+            Shape::Concat(r, s) => {
+                let n = r.states();
                 if p < n {
-                    self.is_final(a as usize, clock, p) && self.node(b as usize).null
+                    r.is_final(p) & s.node().null
                 } else {
-                    self.is_final(b as usize, clock, p - n)
+                    s.is_final(p - n)
                 }
             }
-            Sequence::Fusion(a, b) => {
-                let n = self.states(a as usize, clock);
-                p >= n && self.is_final(b as usize, clock, p - n)
+            Shape::Fusion(r, s) => {
+                let n = r.states();
+                p >= n && s.is_final(p - n)
             }
-            Sequence::Either(a, b) => {
-                let n = self.states(a as usize, clock);
+            Shape::Either(r, s) => {
+                let n = r.states();
                 if p < n {
-                    self.is_final(a as usize, clock, p)
+                    r.is_final(p)
                 } else {
-                    self.is_final(b as usize, clock, p - n)
+                    s.is_final(p - n)
                 }
             }
-            Sequence::Both(a, b) => {
-                let (x, y) = self.pair(a as usize, b as usize, clock, p);
-                self.is_final(a as usize, clock, x) && self.is_final(b as usize, clock, y)
+            Shape::Both(r, s) => {
+                let (x, y) = s.pair(r.states(), p);
+                r.is_final(x) & s.is_final(y)
             }
-            Sequence::Empty => false,
-            Sequence::Star(a) => self.is_final(a as usize, clock, p),
-            Sequence::At(a, d) => self.is_final(a as usize, Clock::On(d), p),
+            Shape::Star(r) | Shape::At(r, _) => r.is_final(p),
         }
     }
 
-    // Whether some tops, one or more, complete a match of sequence `i` from its state `p`.
-    pub(crate) fn is_live(&self, i: usize, clock: Clock, p: usize) -> bool
-        requires there { i < length (entries_of self.now) }
-        requires few { states_of (clock_of clock) (tree (entries_of self.now) i) ≤ 240 }
-        requires state { p < states_of (clock_of clock) (tree (entries_of self.now) i) }
-        ensures value { result ≡ numbered_live (clock_of clock) (tree (entries_of self.now) i) p }
+    // Whether some tops, one or more, complete a match from state `p`.
+    pub(crate) fn is_live(self, p: usize) -> bool
+        requires state { p < size self }
+        ensures value { result ≡ numbered_live (clock_in self.entry) (sequence_of self.entry) p }
     {
-        match self.node(i).entry {
-            Sequence::Condition(_) => match clock {
-                Clock::Free => false,
-                Clock::On(_) => p == 0,
-            },
-            Sequence::Concat(a, b) => {
-                let n = self.states(a as usize, clock);
+        match self.shape() {
+            Shape::Stateless => false,
+            Shape::Condition(_) => self.clock.is_some() & (p == 0),
+            Shape::Concat(r, s) => {
+                let (n, second) = (r.states(), s.node());
                 if p < n {
-                    let second = self.node(b as usize);
-                    (self.is_final(a as usize, clock, p) & second.live)
-                        | (self.is_live(a as usize, clock, p) & (second.null | second.live))
+                    (r.is_final(p) & second.live) | (r.is_live(p) & (second.null | second.live))
                 } else {
-                    self.is_live(b as usize, clock, p - n)
+                    s.is_live(p - n)
                 }
             }
-            Sequence::Fusion(a, b) => {
-                let n = self.states(a as usize, clock);
+            Shape::Fusion(r, s) => {
+                let n = r.states();
                 if p < n {
-                    self.is_live(a as usize, clock, p) & self.node(b as usize).live
+                    r.is_live(p) & s.node().live
                 } else {
-                    self.is_live(b as usize, clock, p - n)
+                    s.is_live(p - n)
                 }
             }
-            Sequence::Either(a, b) => {
-                let n = self.states(a as usize, clock);
+            Shape::Either(r, s) => {
+                let n = r.states();
                 if p < n {
-                    self.is_live(a as usize, clock, p)
+                    r.is_live(p)
                 } else {
-                    self.is_live(b as usize, clock, p - n)
+                    s.is_live(p - n)
                 }
             }
-            Sequence::Both(a, b) => {
-                let (x, y) = self.pair(a as usize, b as usize, clock, p);
-                self.is_live(a as usize, clock, x) & self.is_live(b as usize, clock, y)
+            Shape::Both(r, s) => {
+                let (x, y) = s.pair(r.states(), p);
+                r.is_live(x) & s.is_live(y)
             }
-            Sequence::Empty => false,
-            Sequence::Star(a) => {
-                let again = self.node(a as usize).live;
-                (self.is_final(a as usize, clock, p) & again) | self.is_live(a as usize, clock, p)
-            }
-            Sequence::At(a, d) => self.is_live(a as usize, Clock::On(d), p),
+            Shape::Star(r) => (r.is_final(p) & r.node().live) | r.is_live(p),
+            Shape::At(r, _) => r.is_live(p),
         }
     }
 
-    // Whether sequence `i` matches the letter at the place alone.
-    pub(crate) fn single(&self, i: usize, clock: Clock, truth: Truth, place: usize) -> bool
-        requires there { i < length (entries_of self.now) }
-        ensures value { result ≡ SingleOf (clock_of clock) (tree (entries_of self.now) i) (letter_at truth.entry.own.now truth.entry.other.now place) }
+    // Whether the sequence matches the letter alone.
+    pub(crate) fn single(self, letter: Letter) -> bool
+        ensures value { result ≡ single_of (clock_in self.entry) (sequence_of self.entry) (letter_in letter.entry) }
     {
-        match self.node(i).entry {
-            Sequence::Condition(b) => ticks(clock, truth, place) & truth.satisfies(place, b),
-            Sequence::Concat(a, b) => {
-                let first = self.node(a as usize).null;
-                let second = self.node(b as usize).null;
-                (first & self.single(b as usize, clock, truth, place))
-                    | (self.single(a as usize, clock, truth, place) & second)
+        match self.shape() {
+            Shape::Stateless => false,
+            Shape::Condition(b) => ticks(self.clock, letter) & letter.satisfies(b),
+            Shape::Concat(r, s) => {
+                (r.node().null & s.single(letter)) | (r.single(letter) & s.node().null)
             }
-            Sequence::Fusion(a, b) => self.single(a as usize, clock, truth, place)
-                & self.single(b as usize, clock, truth, place),
-            Sequence::Either(a, b) => self.single(a as usize, clock, truth, place)
-                | self.single(b as usize, clock, truth, place),
-            Sequence::Both(a, b) => self.single(a as usize, clock, truth, place)
-                & self.single(b as usize, clock, truth, place),
-            Sequence::Empty => false,
-            Sequence::Star(a) => self.single(a as usize, clock, truth, place),
-            Sequence::At(a, d) => self.single(a as usize, Clock::On(d), truth, place),
+            Shape::Fusion(r, s) | Shape::Both(r, s) => r.single(letter) & s.single(letter),
+            Shape::Either(r, s) => r.single(letter) | s.single(letter),
+            Shape::Star(r) | Shape::At(r, _) => r.single(letter),
         }
     }
 
-    // From the start of sequence `i`, whether the letter at the place may lead to its state `q`.
-    pub(crate) fn starts(
-        &self,
-        i: usize,
-        clock: Clock,
-        truth: Truth,
-        place: usize,
-        q: usize,
-    ) -> bool
-        requires there { i < length (entries_of self.now) }
-        requires few { states_of (clock_of clock) (tree (entries_of self.now) i) ≤ 240 }
-        requires state { q < states_of (clock_of clock) (tree (entries_of self.now) i) }
-        ensures value { result ≡ numbered_init (clock_of clock) (tree (entries_of self.now) i) (letter_at truth.entry.own.now truth.entry.other.now place) q }
+    // From the start, whether the letter may lead to state `q`.
+    pub(crate) fn starts(self, letter: Letter, q: usize) -> bool
+        requires state { q < size self }
+        ensures value { result ≡ numbered_init (clock_in self.entry) (sequence_of self.entry) (letter_in letter.entry) q }
     {
-        match self.node(i).entry {
-            Sequence::Condition(b) => leaf_starts(clock, b, truth, place, q),
-            Sequence::Concat(a, b) => {
-                let n = self.states(a as usize, clock);
+        match self.shape() {
+            Shape::Stateless => false,
+            Shape::Condition(b) => leaf_starts(self.clock, b, letter, q),
+            Shape::Concat(r, s) => {
+                let n = r.states();
                 if q < n {
-                    self.starts(a as usize, clock, truth, place, q)
+                    r.starts(letter, q)
                 } else {
-                    self.node(a as usize).null
-                        && self.starts(b as usize, clock, truth, place, q - n)
+                    r.node().null & s.starts(letter, q - n)
                 }
             }
-            Sequence::Fusion(a, b) => {
-                let n = self.states(a as usize, clock);
+            Shape::Fusion(r, s) => {
+                let n = r.states();
                 if q < n {
-                    self.starts(a as usize, clock, truth, place, q)
+                    r.starts(letter, q)
                 } else {
-                    self.single(a as usize, clock, truth, place)
-                        && self.starts(b as usize, clock, truth, place, q - n)
+                    r.single(letter) & s.starts(letter, q - n)
                 }
             }
-            Sequence::Either(a, b) => {
-                let n = self.states(a as usize, clock);
+            Shape::Either(r, s) => {
+                let n = r.states();
                 if q < n {
-                    self.starts(a as usize, clock, truth, place, q)
+                    r.starts(letter, q)
                 } else {
-                    self.starts(b as usize, clock, truth, place, q - n)
+                    s.starts(letter, q - n)
                 }
             }
-            Sequence::Both(a, b) => {
-                let (x, y) = self.pair(a as usize, b as usize, clock, q);
-                self.starts(a as usize, clock, truth, place, x)
-                    && self.starts(b as usize, clock, truth, place, y)
+            Shape::Both(r, s) => {
+                let (x, y) = s.pair(r.states(), q);
+                r.starts(letter, x) & s.starts(letter, y)
             }
-            Sequence::Empty => false,
-            Sequence::Star(a) => self.starts(a as usize, clock, truth, place, q),
-            Sequence::At(a, d) => self.starts(a as usize, Clock::On(d), truth, place, q),
+            Shape::Star(r) | Shape::At(r, _) => r.starts(letter, q),
         }
     }
 }

@@ -1,5 +1,5 @@
 // Where the states of a sequence stand among those of the sequence that it is a part of.
-ghost use Rattle.std.specs.Prelude.{◌≡◌, ℕ, ◌*◌, ◌<◌, ◌≤◌};
+ghost use Rattle.std.specs.Prelude.{◌≡◌, ℕ, ◌*◌, ◌≤◌};
 ghost use Rattle.automaton.specs.Views.{Fits, place as place_of, behind as behind_of, column as column_of, whole as whole_view};
 
 // The state numbered n stands at base + stride * n.

@@ -1,0 +1,106 @@
+// Sequences of a table under the clock in force, as parts of one another.
+ghost use Rattle.std.specs.Prelude.{◌<◌, ◌≤◌, length};
+ghost use Rattle.psl.specs.Automaton.{states as states_of};
+ghost use Rattle.automaton.specs.Automata.{entries_of};
+ghost use Rattle.automaton.specs.Clocks.{clock_of};
+ghost use Rattle.automaton.specs.Trees.{tree};
+
+use crate::automata::Automata;
+use crate::node::Node;
+use psl::entry::Sequence;
+
+// A sequence by its number, under the clock that has the condition of that name, or free of a clock. It has few enough states to be followed.
+#[derive(Clone, Copy)]
+pub(crate) struct Part<'a> {
+    of: &'a Automata,
+    number: u16,
+    pub(crate) clock: Option<u16>,
+    ghost there: { number < length (entries_of of.now) },
+    ghost few: { states_of (clock_of clock) (tree (entries_of of.now) number) ≤ 240 },
+}
+
+// What a sequence is made of: as its entry, with parts for the operands; or it has no state.
+#[derive(Clone, Copy)]
+pub(crate) enum Shape<'a> {
+    Stateless,
+    Condition(u16),
+    Concat(Part<'a>, Part<'a>),
+    Fusion(Part<'a>, Part<'a>),
+    Either(Part<'a>, Part<'a>),
+    Both(Part<'a>, Part<'a>),
+    Star(Part<'a>),
+    At(Part<'a>, u16),
+}
+
+impl<'a> Part<'a> {
+    ghost use Rattle.std.specs.Prelude.{◌≡◌};
+    ghost use Rattle.automaton.specs.Nodes.{Facts};
+    ghost use Rattle.automaton.specs.Parts.{clock_in, sequence_of, size, ShapeOf};
+
+    // What is known of the sequence.
+    pub(crate) fn node(self) -> Node
+        ensures facts { Facts (sequence_of self.entry) result }
+    {
+        self.of.node(self.number)
+    }
+
+    // How many states it has.
+    pub(crate) fn states(self) -> usize
+        ensures value { result ≡ size self.entry }
+    {
+        let node = self.node();
+        match self.clock {
+            None => node.free,
+            Some(_) => node.clocked,
+        }
+    }
+
+    // What it is made of.
+    pub(crate) fn shape(self) -> Shape<'a>
+        ensures value { ShapeOf self.entry result }
+    {
+        if self.states() == 0 {
+            return Shape::Stateless;
+        }
+        match self.of.node(self.number).entry {
+            Sequence::Condition(b) => Shape::Condition(b),
+            Sequence::Concat(a, b) => Shape::Concat(self.part(a), self.part(b)),
+            Sequence::Fusion(a, b) => Shape::Fusion(self.part(a), self.part(b)),
+            Sequence::Either(a, b) => Shape::Either(self.part(a), self.part(b)),
+            Sequence::Both(a, b) => Shape::Both(self.part(a), self.part(b)),
+            Sequence::Empty => Shape::Stateless,
+            Sequence::Star(a) => Shape::Star(self.part(a)),
+            Sequence::At(a, d) => Shape::At(self.of.part(a, Some(d)), d),
+        }
+    }
+
+    // The part with that number, under the same clock.
+    fn part(self, number: u16) -> Part<'a>
+        requires there { number < length (entries_of self.of.now) }
+        requires few { states_of (clock_of self.clock) (tree (entries_of self.of.now) number) ≤ 240 }
+        ensures of { result.of.now ≡ self.entry.of.now }
+        ensures number { result.number ≡ number }
+        ensures clock { result.clock ≡ self.entry.clock }
+    {
+        self.of.part(number, self.clock)
+    }
+}
+
+impl Automata {
+    ghost use Rattle.std.specs.Prelude.{◌≡◌};
+
+    // The sequence with that number, under a clock.
+    pub(crate) fn part(&self, number: u16, clock: Option<u16>) -> Part
+        requires there { number < length (entries_of self.now) }
+        requires few { states_of (clock_of clock) (tree (entries_of self.now) number) ≤ 240 }
+        ensures of { result.of.now ≡ self.now }
+        ensures number { result.number ≡ number }
+        ensures clock { result.clock ≡ clock }
+    {
+        Part {
+            of: self,
+            number,
+            clock,
+        }
+    }
+}

@@ -1,0 +1,86 @@
+// Parts whose states stand among those of the sequence that is followed.
+ghost use Rattle.automaton.specs.Parts.{size};
+ghost use Rattle.automaton.specs.Views.{Fits};
+
+use crate::part::Part;
+use crate::view::View;
+
+// A part, and where its states stand: each among 240, at a place of its own.
+#[derive(Clone, Copy)]
+pub(crate) struct Placed<'a> {
+    pub(crate) part: Part<'a>,
+    pub(crate) view: View,
+    ghost fits: { Fits view (size part) },
+}
+
+impl<'a> Placed<'a> {
+    ghost use Rattle.std.specs.Prelude.{◌≡◌, ◌+◌, ◌*◌, ◌<◌, ◌≤◌};
+    ghost use Rattle.automaton.specs.Standing.{Stands};
+    ghost use Rattle.automaton.specs.Views.{behind as behind_of, column as column_of, row as row_of, whole};
+
+    // A sequence by itself: state n stands at place n.
+    pub(crate) fn whole(part: Part<'a>) -> Placed<'a>
+        ensures { Stands result part.entry whole }
+    {
+        Placed {
+            part,
+            view: View::whole(),
+        }
+    }
+
+    // A part with as many states, at the same places.
+    pub(crate) fn with(self, part: Part<'a>) -> Placed<'a>
+        requires same { size part ≡ size self.part }
+        ensures { Stands result part.entry self.entry.view }
+    {
+        Placed {
+            part,
+            view: self.view,
+        }
+    }
+
+    // The two parts of a sum: the states of the second stand behind those of the first.
+    pub(crate) fn halves(self, r: Part<'a>, s: Part<'a>) -> (Placed<'a>, Placed<'a>)
+        requires sum { size self.part ≡ size r + size s }
+        ensures first { Stands result.0 r.entry self.entry.view }
+        ensures second { Stands result.1 s.entry (behind_of self.entry.view (size r.entry)) }
+    {
+        let second = Placed {
+            part: s,
+            view: self.view.behind(r.states()),
+        };
+        (
+            Placed {
+                part: r,
+                view: self.view,
+            },
+            second,
+        )
+    }
+
+    // The first part of the pairs whose second part is state `p` of s.
+    pub(crate) fn column(self, r: Part<'a>, s: Part<'a>, p: usize) -> Placed<'a>
+        requires product { size self.part ≡ size r * size s }
+        requires some { 1 ≤ size self.part }
+        requires state { p < size s }
+        ensures { Stands result r.entry (column_of self.entry.view p (size s.entry)) }
+    {
+        Placed {
+            part: r,
+            view: self.view.column(p, s.states()),
+        }
+    }
+
+    // The second part of the pairs whose first part is state `q` of r.
+    pub(crate) fn row(self, r: Part<'a>, s: Part<'a>, q: usize) -> Placed<'a>
+        requires product { size self.part ≡ size r * size s }
+        requires some { 1 ≤ size self.part }
+        requires state { q < size r }
+        ensures { Stands result s.entry (row_of self.entry.view q (size s.entry)) }
+    {
+        Placed {
+            part: s,
+            view: self.view.behind(q * s.states()),
+        }
+    }
+}

@@ -9,7 +9,7 @@ use Rattle.psl.specs.Evaluation.{some_below}
 use Rattle.psl.specs.Numbered.{number, numbered_final}
 use Rattle.psl.specs.OptionalClock.{Clock, free, on}
 use Rattle.psl.proofs.Accept.{any_in, any_out}
-use Rattle.psl.proofs.Number.{some_any, number_below}
+use Rattle.psl.proofs.Number.{some_any}
 use Rattle.psl.proofs.Numbered.{final_numbered}
 use Rattle.psl.proofs.Tests.{and_in, and_out, same_test}
 use Rattle.automaton.specs.declared.view.View.{View}

@@ -5,7 +5,6 @@ pub mod Pairs
 pub mod Views
 pub mod PartMoves
 pub mod Sweep
-pub mod ConditionMoves
 pub mod Ends
 pub mod Follow
 pub mod Arrive

@@ -1,5 +1,5 @@
 -- What is told of a part where it stands, said of its sequence, its clock and its view.
-use Rattle.std.proofs.Common.{◌≡◌, ap, ◌∙◌, subst}
+use Rattle.std.proofs.Common.{◌≡◌, ap, subst}
 use Rattle.psl.specs.Syntax.{Sequence}
 use Rattle.psl.specs.Automaton.{states}
 use Rattle.psl.specs.OptionalClock.{Clock}
@@ -9,7 +9,7 @@ use Rattle.automaton.specs.declared.view.View.{View}
 use Rattle.automaton.specs.Clocks.{clock_of}
 use Rattle.automaton.specs.Parts.{clock_in, sequence_of, size, Operand}
 use Rattle.automaton.specs.Standing.{Stands}
-use Rattle.automaton.specs.Views.{behind, row, column}
+use Rattle.automaton.specs.Views.{behind}
 
 -- of a part under the clock k
 pub told : (P : Clock → Sequence → View → Type 0) (w : Placed) (r : Part) (k : Clock) (v : View) → clock_in r ≡ k → Stands w r v

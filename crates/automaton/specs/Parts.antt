@@ -2,10 +2,10 @@
 use Rattle.std.specs.Prelude.{◌≡◌, ℕ, ◌<◌, ◌≤◌}
 use Rattle.psl.specs.Syntax.{atom, Sequence, condition, concat, fusion, either, both, star, sequence_at}
 use Rattle.psl.specs.Automaton.{states}
-use Rattle.psl.specs.OptionalClock.{Clock, on}
+use Rattle.psl.specs.OptionalClock.{Clock, free, on}
 use Rattle.automaton.specs.declared.part.Part.{Part}
 use Rattle.automaton.specs.declared.part.Shape as code
-use Rattle.automaton.specs.declared.part.Shape.TheVariants.{Stateless, Condition, Concat, Fusion, Either, Both, Star, At}
+use Rattle.automaton.specs.declared.part.Shape.TheVariants.{Stateless, Free, Clocked, Concat, Fusion, Either, Both, Star, At}
 use Rattle.automaton.specs.Automata.{entries_of}
 use Rattle.automaton.specs.Clocks.{clock_of}
 use Rattle.automaton.specs.Trees.{tree}
@@ -29,7 +29,8 @@ Operand p r = (r.number < p.number) × (r.clock ≡ p.clock)
 -- what p is made of
 abbrev pub ShapeOf : Part → code.Shape → Type 0
 ShapeOf p Stateless = size p ≡ 0
-ShapeOf p (Condition b) = sequence_of p ≡ condition (atom b)
+ShapeOf p (Free b) = (clock_in p ≡ free) × (sequence_of p ≡ condition (atom b))
+ShapeOf p (Clocked c b) = (clock_in p ≡ on (atom c)) × (sequence_of p ≡ condition (atom b))
 ShapeOf p (Concat r s) = Operand p r × Operand p s × (sequence_of p ≡ concat (sequence_of r) (sequence_of s))
 ShapeOf p (Fusion r s) = Operand p r × Operand p s × (sequence_of p ≡ fusion (sequence_of r) (sequence_of s))
 ShapeOf p (Either r s) = Operand p r × Operand p s × (sequence_of p ≡ either (sequence_of r) (sequence_of s))

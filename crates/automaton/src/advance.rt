@@ -4,10 +4,11 @@ ghost use Rattle.bits.specs.Member.{member};
 ghost use Rattle.psl.specs.OptionalClock.{free, on};
 ghost use Rattle.psl.specs.Syntax.{atom, condition};
 ghost use Rattle.automaton.specs.Clocks.{letter_in};
-ghost use Rattle.automaton.specs.Parts.{clock_in, sequence_of, size};
-ghost use Rattle.automaton.specs.Views.{Fits, EndedIn, MovedBy, Kept};
+ghost use Rattle.automaton.specs.Parts.{clock_in, sequence_of, ShapeOf};
+ghost use Rattle.automaton.specs.declared.part.Shape.TheVariants.{Both};
+ghost use Rattle.automaton.specs.Views.{Fits, EndedIn, Advanced};
 
-use crate::part::Shape;
+use crate::part::{Part, Shape};
 use crate::placed::Placed;
 use crate::starts::Starts;
 use crate::view::View;
@@ -17,8 +18,7 @@ use bits::places::Places;
 // A condition free of a clock: what enters has read its letter.
 fn advance_free(b: u16, letter: Letter, enter: &Places, view: View, starts: &mut Starts)
     requires { Fits view 1 }
-    ensures moved { MovedBy free (condition (atom b)) (letter_in letter.entry) (member enter.now) view starts.old.sets starts.new.sets }
-    ensures kept { Kept 1 view starts.old.sets starts.new.sets }
+    ensures { Advanced free (condition (atom b)) (letter_in letter.entry) (member enter.now) view starts.old.sets starts.new.sets }
 {
     let mut read = *enter;
     read.keep(letter.satisfies(b));
@@ -28,8 +28,7 @@ fn advance_free(b: u16, letter: Letter, enter: &Places, view: View, starts: &mut
 // A condition under a clock: what waits for the end of its tick, or enters, goes on waiting, or its tick is over.
 fn advance_clocked(c: u16, b: u16, letter: Letter, enter: &Places, view: View, starts: &mut Starts)
     requires { Fits view 2 }
-    ensures moved { MovedBy (on (atom c)) (condition (atom b)) (letter_in letter.entry) (member enter.now) view starts.old.sets starts.new.sets }
-    ensures kept { Kept 2 view starts.old.sets starts.new.sets }
+    ensures { Advanced (on (atom c)) (condition (atom b)) (letter_in letter.entry) (member enter.now) view starts.old.sets starts.new.sets }
 {
     let mut waiting = starts.of(view, 0);
     waiting.join(enter);
@@ -47,10 +46,8 @@ impl<'a> Placed<'a> {
     {
         match self.part.shape() {
             Shape::Stateless => Places::none(),
-            Shape::Condition(_) => match self.part.clock {
-                None => starts.of(self.view, 0),
-                Some(_) => starts.of(self.view, 1),
-            },
+            Shape::Free(_) => starts.of(self.view, 0),
+            Shape::Clocked(_, _) => starts.of(self.view, 1),
             Shape::Concat(r, s) => {
                 let (first, second) = self.halves(r, s);
                 let mut found = second.ended(starts);
@@ -80,16 +77,14 @@ impl<'a> Placed<'a> {
     }
 
     // Moves the starts in the states by the letter; those of `enter` start there.
+    #[cycle(advance)]
     pub(crate) fn advance(self, letter: Letter, enter: &Places, starts: &mut Starts)
-        ensures moved { MovedBy (clock_in self.entry.part) (sequence_of self.entry.part) (letter_in letter.entry) (member enter.now) self.entry.view starts.old.sets starts.new.sets }
-        ensures kept { Kept (size self.entry.part) self.entry.view starts.old.sets starts.new.sets }
+        ensures { Advanced (clock_in self.entry.part) (sequence_of self.entry.part) (letter_in letter.entry) (member enter.now) self.entry.view starts.old.sets starts.new.sets }
     {
         match self.part.shape() {
             Shape::Stateless => {}
-            Shape::Condition(b) => match self.part.clock {
-                None => advance_free(b, letter, enter, self.view, starts),
-                Some(c) => advance_clocked(c, b, letter, enter, self.view, starts),
-            },
+            Shape::Free(b) => advance_free(b, letter, enter, self.view, starts),
+            Shape::Clocked(c, b) => advance_clocked(c, b, letter, enter, self.view, starts),
             Shape::Concat(r, s) => {
                 let (first, second) = self.halves(r, s);
                 let mut onward = first.ended(starts);
@@ -108,17 +103,7 @@ impl<'a> Placed<'a> {
                 first.advance(letter, enter, starts);
                 second.advance(letter, enter, starts);
             }
-            Shape::Both(r, s) => {
-                for p in 0..s.states() {
-                    self.column(r, s, p)
-                        .advance(letter, &Places::none(), starts);
-                }
-                for q in 0..r.states() {
-                    let mut first = *enter;
-                    first.keep(r.starts(letter, q));
-                    self.row(r, s, q).advance(letter, &first, starts);
-                }
-            }
+            Shape::Both(r, s) => self.advance_pairs(r, s, letter, enter, starts),
             Shape::Star(r) => {
                 let part = self.with(r);
                 let mut again = part.ended(starts);
@@ -126,6 +111,30 @@ impl<'a> Placed<'a> {
                 part.advance(letter, &again, starts);
             }
             Shape::At(r, _) => self.with(r).advance(letter, enter, starts),
+        }
+    }
+
+    // Moves the starts in the states of r && s: the first parts of the pairs, which nothing enters, and then the second parts.
+    #[cycle(advance)]
+    fn advance_pairs(
+        self,
+        r: Part<'a>,
+        s: Part<'a>,
+        letter: Letter,
+        enter: &Places,
+        starts: &mut Starts,
+    )
+        requires { ShapeOf self.part (Both r s) }
+        ensures { Advanced (clock_in self.entry.part) (sequence_of self.entry.part) (letter_in letter.entry) (member enter.now) self.entry.view starts.old.sets starts.new.sets }
+    {
+        let none = Places::none();
+        for p in 0..s.states() {
+            self.column(r, s, p).advance(letter, &none, starts);
+        }
+        for q in 0..r.states() {
+            let mut first = *enter;
+            first.keep(r.starts(letter, q));
+            self.row(r, s, q).advance(letter, &first, starts);
         }
     }
 }

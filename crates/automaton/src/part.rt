@@ -14,16 +14,17 @@ use psl::entry::Sequence;
 pub(crate) struct Part<'a> {
     of: &'a Automata,
     number: u16,
-    pub(crate) clock: Option<u16>,
+    clock: Option<u16>,
     ghost there: { number < length (entries_of of.now) },
     ghost few: { states_of (clock_of clock) (tree (entries_of of.now) number) ≤ 240 },
 }
 
-// What a sequence is made of: as its entry, with parts for the operands; or it has no state.
+// What a sequence is made of: a condition free of a clock, a condition under one (the clock's name first), or parts; or it has no state.
 #[derive(Clone, Copy)]
 pub(crate) enum Shape<'a> {
     Stateless,
-    Condition(u16),
+    Free(u16),
+    Clocked(u16, u16),
     Concat(Part<'a>, Part<'a>),
     Fusion(Part<'a>, Part<'a>),
     Either(Part<'a>, Part<'a>),
@@ -63,7 +64,10 @@ impl<'a> Part<'a> {
             return Shape::Stateless;
         }
         match self.of.node(self.number).entry {
-            Sequence::Condition(b) => Shape::Condition(b),
+            Sequence::Condition(b) => match self.clock {
+                None => Shape::Free(b),
+                Some(c) => Shape::Clocked(c, b),
+            },
             Sequence::Concat(a, b) => Shape::Concat(self.part(a), self.part(b)),
             Sequence::Fusion(a, b) => Shape::Fusion(self.part(a), self.part(b)),
             Sequence::Either(a, b) => Shape::Either(self.part(a), self.part(b)),

@@ -1,54 +1,26 @@
 // The states of a sequence, by number: which are ends, where a letter leads from the start, and from which tops go on to an end.
 ghost use Rattle.std.specs.Prelude.{◌≡◌, ℕ, ◌*◌, ◌/◌, ◌%◌, ◌<◌};
 ghost use Rattle.psl.specs.Automaton.{single as single_of};
-ghost use Rattle.psl.specs.Numbered.{numbered_final, numbered_init, numbered_live, numbered_leaf_init};
-ghost use Rattle.psl.specs.OptionalClock.{ticks as ticks_of};
-ghost use Rattle.psl.specs.Syntax.{atom};
-ghost use Rattle.automaton.specs.Clocks.{clock_of, letter_in};
+ghost use Rattle.psl.specs.Numbered.{numbered_final, numbered_init, numbered_live};
+ghost use Rattle.automaton.specs.Clocks.{letter_in};
 ghost use Rattle.automaton.specs.Parts.{clock_in, sequence_of, size};
 
 use crate::part::{Part, Shape};
 use crate::word::Letter;
 
-// Whether the letter is where a tick ends.
-fn ticks(clock: Option<u16>, letter: Letter) -> bool
-    ensures value { result ≡ ticks_of (clock_of clock) (letter_in letter.entry) }
+// The two states, of r and of s, that make up state `p` of r && s.
+fn pair(r: Part, s: Part, p: usize) -> (usize, usize)
+    requires { p < size r * size s }
+    ensures first { result.0 ≡ p / size s.entry }
+    ensures second { result.1 ≡ p % size s.entry }
+    ensures below_first { result.0 < size r.entry }
+    ensures below_second { result.1 < size s.entry }
 {
-    match clock {
-        None => true,
-        Some(c) => letter.satisfies(c),
-    }
-}
-
-// From the start of a condition, whether the letter may lead to its state `q`.
-fn leaf_starts(clock: Option<u16>, b: u16, letter: Letter, q: usize) -> bool
-    ensures value { result ≡ numbered_leaf_init (clock_of clock) (atom b) (letter_in letter.entry) q }
-{
-    match clock {
-        None => letter.satisfies(b),
-        Some(c) => {
-            if q == 0 {
-                !letter.mirror_satisfies(c)
-            } else {
-                letter.satisfies(c) & letter.satisfies(b)
-            }
-        }
-    }
+    let m = s.states();
+    (p / m, p % m)
 }
 
 impl<'a> Part<'a> {
-    // The two states that make up state `p` of the pairs whose second part is this one, where there are `n` first parts.
-    fn pair(self, n: usize, p: usize) -> (usize, usize)
-        requires state { p < n * size self }
-        ensures first { result.0 ≡ p / size self.entry }
-        ensures second { result.1 ≡ p % size self.entry }
-        ensures below_first { result.0 < n }
-        ensures below_second { result.1 < size self.entry }
-    {
-        let m = self.states();
-        (p / m, p % m)
-    }
-
     // Whether a match may end in state `p`.
     pub(crate) fn is_final(self, p: usize) -> bool
         requires state { p < size self }
@@ -56,7 +28,8 @@ impl<'a> Part<'a> {
     {
         match self.shape() {
             Shape::Stateless => false,
-            Shape::Condition(_) => self.clock.is_none() | (p == 1),
+            Shape::Free(_) => true,
+            Shape::Clocked(_, _) => p == 1,
             Shape::Concat(r, s) => {
                 let n = r.states();
                 if p < n {
@@ -78,7 +51,7 @@ impl<'a> Part<'a> {
                 }
             }
             Shape::Both(r, s) => {
-                let (x, y) = s.pair(r.states(), p);
+                let (x, y) = pair(r, s, p);
                 r.is_final(x) & s.is_final(y)
             }
             Shape::Star(r) | Shape::At(r, _) => r.is_final(p),
@@ -91,8 +64,8 @@ impl<'a> Part<'a> {
         ensures value { result ≡ numbered_live (clock_in self.entry) (sequence_of self.entry) p }
     {
         match self.shape() {
-            Shape::Stateless => false,
-            Shape::Condition(_) => self.clock.is_some() & (p == 0),
+            Shape::Stateless | Shape::Free(_) => false,
+            Shape::Clocked(_, _) => p == 0,
             Shape::Concat(r, s) => {
                 let (n, second) = (r.states(), s.node());
                 if p < n {
@@ -118,7 +91,7 @@ impl<'a> Part<'a> {
                 }
             }
             Shape::Both(r, s) => {
-                let (x, y) = s.pair(r.states(), p);
+                let (x, y) = pair(r, s, p);
                 r.is_live(x) & s.is_live(y)
             }
             Shape::Star(r) => (r.is_final(p) & r.node().live) | r.is_live(p),
@@ -132,7 +105,8 @@ impl<'a> Part<'a> {
     {
         match self.shape() {
             Shape::Stateless => false,
-            Shape::Condition(b) => ticks(self.clock, letter) & letter.satisfies(b),
+            Shape::Free(b) => letter.satisfies(b),
+            Shape::Clocked(c, b) => letter.satisfies(c) & letter.satisfies(b),
             Shape::Concat(r, s) => {
                 (r.node().null & s.single(letter)) | (r.single(letter) & s.node().null)
             }
@@ -149,7 +123,14 @@ impl<'a> Part<'a> {
     {
         match self.shape() {
             Shape::Stateless => false,
-            Shape::Condition(b) => leaf_starts(self.clock, b, letter, q),
+            Shape::Free(b) => letter.satisfies(b),
+            Shape::Clocked(c, b) => {
+                if q == 0 {
+                    !letter.mirror_satisfies(c)
+                } else {
+                    letter.satisfies(c) & letter.satisfies(b)
+                }
+            }
             Shape::Concat(r, s) => {
                 let n = r.states();
                 if q < n {
@@ -175,7 +156,7 @@ impl<'a> Part<'a> {
                 }
             }
             Shape::Both(r, s) => {
-                let (x, y) = s.pair(r.states(), q);
+                let (x, y) = pair(r, s, q);
                 r.starts(letter, x) & s.starts(letter, y)
             }
             Shape::Star(r) | Shape::At(r, _) => r.starts(letter, q),

@@ -1,10 +1,10 @@
-use Rattle.std.proofs.Common.{◌≡◌, true, length, get_or, sym, ap, ◌∙◌, subst}
+use Rattle.std.proofs.Common.{◌≡◌, true, length, get_or, sym, subst}
 use Rattle.std.proofs.lemmas.Bool.{and_parts, ltb-true}
-use Rattle.psl.specs.Syntax.{truth, atom, empty}
+use Rattle.psl.specs.Syntax.{atom, empty}
 use Rattle.psl.specs.declared.entry.Sequence as entry
 use Rattle.psl.specs.declared.entry.Sequence.TheVariants as s
 use Rattle.automaton.specs.declared.node.Node.{Node}
-use Rattle.automaton.specs.Nodes.{blank, lower, capped, Facts}
+use Rattle.automaton.specs.Nodes.{blank, lower, Facts}
 use Rattle.automaton.specs.Trees.{named_sequence_of}
 use Rattle.automaton.proofs.Facts.{both_facts, at_facts}
 use Rattle.automaton.proofs.node.describe.Goals as goal

@@ -1,8 +1,7 @@
-use Rattle.std.proofs.Common.{◌≡◌, ℕ, ◌≤◌, length, ap, ◌∙◌, arith}
-use Rattle.table.specs.Rows.{rows_of}
+use Rattle.std.proofs.Common.{ap}
 use Rattle.automaton.specs.Automata.{entries_of}
 use Rattle.automaton.specs.Nodes.{entries}
-use Rattle.automaton.proofs.Read.{length_entries, few_entries}
+use Rattle.automaton.proofs.Read.{few_entries}
 use Rattle.automaton.proofs.automata.Automata.new.Goals as goal
 
 pub loop-entry-init : goal.loop-entry-init

@@ -1,4 +1,4 @@
-use Rattle.std.proofs.Common.{◌≡◌, ◌<◌, List, length, get_or, sym, subst, arith}
+use Rattle.std.proofs.Common.{◌<◌, List, length, get_or, sym, subst, arith}
 use Rattle.table.specs.Rows.{rows_of}
 use Rattle.automaton.specs.declared.node.Node.{Node}
 use Rattle.automaton.specs.Automata.{entries_of, Known}

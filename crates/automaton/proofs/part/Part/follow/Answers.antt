@@ -1,13 +1,12 @@
-use Rattle.std.proofs.Common.{◌≡◌, ℕ, ◌+◌, true, false, Bool, ◌&&◌, ◌||◌, eqb, get_or, ap, ◌∙◌, subst, arith, ap₂, refl}
+use Rattle.std.proofs.Common.{◌≡◌, ℕ, ◌+◌, true, false, Bool, ◌&&◌, ◌||◌, eqb, ap, ◌∙◌, subst, arith, ap₂, refl}
 use Rattle.std.proofs.lemmas.Bool.Decides.{nat_tests}
 use Rattle.bits.specs.Member.{member}
-use Rattle.psl.specs.Numbered.{number}
 use Rattle.truth.specs.Rows.{letter_of}
 use Rattle.automaton.specs.Clocks.{letter_at, letter_in}
 use Rattle.automaton.specs.Parts.{clock_in, sequence_of}
-use Rattle.automaton.specs.Views.{place, whole, MovedBy, EndedIn}
-use Rattle.automaton.proofs.Follow.{followed_none, followed_more, ended_accepts, Followed, Found}
-use Rattle.automaton.proofs.Arrive.{found_none, found_more, arrived}
+use Rattle.automaton.specs.Views.{whole, MovedBy, EndedIn}
+use Rattle.automaton.proofs.Follow.{followed_more, ended_accepts, Followed, Found}
+use Rattle.automaton.proofs.Arrive.{found_more, arrived}
 use Rattle.automaton.proofs.Standing.{told}
 use Rattle.automaton.proofs.part.Part.follow.Goals as goal
 
@@ -27,7 +26,7 @@ loop-place-preserved c =
     let S' = c.advance.new.starts.sets in
     let here = member c.put.new.self in
     let l : letter_in c.letter.result ≡ letter_at own other i = ap₂ letter_of c.letter.ensures.own c.letter.ensures.other in
-    let moved = subst (λ l. MovedBy k r l here whole S S') l (told (λ k q v. MovedBy k q (letter_in c.letter.result) here v S S') c.whole-whole.result c.args.self k whole refl c.whole-whole.ensures c.advance.ensures.moved) in
+    let moved = subst (λ l. MovedBy k r l here whole S S') l (told (λ k q v. MovedBy k q (letter_in c.letter.result) here v S S') c.whole-whole.result c.args.self k whole refl c.whole-whole.ensures c.advance.ensures.0) in
     let ended = told (λ k q v. EndedIn k q v S' c.ended.result) c.whole-whole.result c.args.self k whole refl c.whole-whole.ensures c.ended.ensures.items in
     let at : (x : ℕ) → here x ≡ eqb x i =
     λ x. c.put.ensures.items (omega arith) x ∙ ap (λ (b : Bool). (eqb x i && true) || b) (c.none-here.ensures.items x) ∙ one (eqb x i) in

@@ -3,7 +3,6 @@ use Rattle.bits.specs.Member.{member}
 use Rattle.psl.specs.Automaton.{states}
 use Rattle.psl.specs.OptionalClock as clocks
 use Rattle.psl.specs.Syntax.{atom}
-use Rattle.automaton.specs.Clocks.{clock_of}
 use Rattle.automaton.specs.Parts.{clock_in, sequence_of}
 use Rattle.automaton.specs.Views.{EndedIn}
 use Rattle.automaton.proofs.Ends.{free_ended, clocked_ended, concat_ended, either_ended, fusion_ended, both_ended, none_ended}
@@ -15,27 +14,28 @@ returns-in-Stateless t c =
     let p = c.args.self.part in
     record { items = none_ended (clock_in p) (sequence_of p) c.args.self.view c.args.starts.now.sets c.none.result c.in-Stateless.ensures.value c.none.ensures.items }
 
-pub returns-in-None : goal.returns-in-None
-returns-in-None t c =
+pub returns-in-Free : goal.returns-in-Free
+returns-in-Free t c =
     let p = c.args.self.part in
     let v = c.args.self.view in
     let S = c.args.starts.now.sets in
+    let found = c.of.result in
+    let (clock, is) = c.in-Free.ensures.value in
     record {
-      items = subst (λ o. EndedIn (clock_of o) (sequence_of p) v S c.of.result) (sym c.in-None.is)
-          (subst (λ r. EndedIn clocks.free r v S c.of.result) (sym c.in-Condition.ensures.value)
-          (free_ended (atom c.in-Condition.field-0) v S c.of.result c.of.ensures.value));
+      items = subst (λ k. EndedIn k (sequence_of p) v S found) (sym clock)
+          (subst (λ r. EndedIn clocks.free r v S found) (sym is) (free_ended (atom c.in-Free.field-0) v S found c.of.ensures.value));
     }
 
-pub returns-in-Some : goal.returns-in-Some
-returns-in-Some t c =
+pub returns-in-Clocked : goal.returns-in-Clocked
+returns-in-Clocked t c =
     let p = c.args.self.part in
     let v = c.args.self.view in
     let S = c.args.starts.now.sets in
-    let found = c.of-in-Some.result in
+    let found = c.of-in-Clocked.result in
+    let (clock, is) = c.in-Clocked.ensures.value in
     record {
-      items = subst (λ o. EndedIn (clock_of o) (sequence_of p) v S found) (sym c.in-Some.is)
-          (subst (λ r. EndedIn (clocks.on (atom c.in-Some.field-0)) r v S found) (sym c.in-Condition.ensures.value)
-          (clocked_ended (atom c.in-Some.field-0) (atom c.in-Condition.field-0) v S found c.of-in-Some.ensures.value));
+      items = subst (λ k. EndedIn k (sequence_of p) v S found) (sym clock)
+          (subst (λ r. EndedIn (clocks.on (atom c.in-Clocked.field-0)) r v S found) (sym is) (clocked_ended (atom c.in-Clocked.field-0) (atom c.in-Clocked.field-1) v S found c.of-in-Clocked.ensures.value));
     }
 
 pub returns-in-Concat : goal.returns-in-Concat

@@ -1,4 +1,4 @@
-use Rattle.std.proofs.Common.{◌≡◌, ℕ, ◌*◌, ◌≤◌, sym, ap, ◌∙◌, subst}
+use Rattle.std.proofs.Common.{ℕ, ◌*◌, ◌≤◌, sym, ap, ◌∙◌, subst}
 use Rattle.automaton.specs.declared.view.View.{View}
 use Rattle.automaton.specs.Parts.{size}
 use Rattle.automaton.specs.Views.{Fits, column}

@@ -1,8 +1,8 @@
-use Rattle.std.proofs.Common.{◌≡◌, ℕ, ◌+◌, ◌≤◌, sym, ap, ◌∙◌, subst}
+use Rattle.std.proofs.Common.{◌+◌, sym, ap, ◌∙◌, subst}
 use Rattle.automaton.specs.declared.view.View.{View}
 use Rattle.automaton.specs.Parts.{size}
-use Rattle.automaton.specs.Views.{Fits, place, behind}
-use Rattle.automaton.proofs.Views.{fits_first, fits_behind, behind_low}
+use Rattle.automaton.specs.Views.{Fits, behind}
+use Rattle.automaton.proofs.Views.{fits_behind}
 use Rattle.automaton.proofs.placed.Placed.halves.Goals as goal
 
 pub invariant_of-second : goal.invariant_of-second

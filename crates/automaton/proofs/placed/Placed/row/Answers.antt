@@ -1,9 +1,9 @@
-use Rattle.std.proofs.Common.{◌≡◌, ℕ, ◌*◌, ◌≤◌, sym, ap, ◌∙◌, subst}
+use Rattle.std.proofs.Common.{ℕ, ◌*◌, ◌≤◌, sym, ap, ◌∙◌, subst}
 use Rattle.automaton.specs.declared.view.View.{View}
 use Rattle.automaton.specs.Parts.{size}
 use Rattle.automaton.specs.Views.{Fits, row}
 use Rattle.automaton.proofs.Views.{fits_row}
-use Rattle.automaton.proofs.Pairs.{first_some, second_some}
+use Rattle.automaton.proofs.Pairs.{second_some}
 use Rattle.automaton.proofs.placed.Placed.row.Goals as goal
 
 pub invariant_of-result : goal.invariant_of-result

@@ -1,5 +1,6 @@
 -- What has ended in the states of a sequence, by its parts.
 use Rattle.std.proofs.Common.{◌≡◌, ℕ, Bool, true, false, ◌&&◌, ◌||◌, List, get_or, sym, ap, ◌∙◌, ap₂, inl, inr, arith}
+use Rattle.std.proofs.Math.Bool.{or_comm}
 use Rattle.std.proofs.lemmas.Bool.Decides.{nat_tests}
 use Rattle.bits.specs.declared.places.Places.{Places}
 use Rattle.bits.specs.Member.{member}
@@ -38,11 +39,8 @@ module _ (k : Clock) (r s : Sequence) (v : View) (S : List Places) (p q : Places
   pub concat_ended : (found : Places) → ((x : ℕ) → member found x ≡ (member q x || (member p x && null s))) → EndedIn k (concat r s) v S found
   concat_ended found is x =
       is x ∙ ap₂ (λ (a b : Bool). a || (b && null s)) (second_ended x) (first x)
-      ∙ same (ended k s (λ o. starts_in S v k (concat r s) x (inr o))) (ended k r (starts_in S v k r x) && null s)
+      ∙ or_comm (ended k s (λ o. starts_in S v k (concat r s) x (inr o))) (ended k r (starts_in S v k r x) && null s)
       ∙ ap (λ (b : Bool). b || ended k s (λ o. starts_in S v k (concat r s) x (inr o))) (sym (any_factor k r (starts_in S v k r x) (final k r) (null s)))
-    where
-      same : (a b : Bool) → (a || b) ≡ (b || a)
-      same a b = grind (arith, nat_tests)
 
   pub either_ended : (found : Places) → ((x : ℕ) → member found x ≡ (member p x || member q x)) → EndedIn k (either r s) v S found
   either_ended found is x = is x ∙ ap₂ ◌||◌ (first x) (second_ended x)

@@ -28,9 +28,6 @@ pub record Swept (k : Clock) (r : Sequence) (l : Letter) (V : ℕ → View) (m :
   pub rest : (x : ℕ) → ((j p : ℕ) → j < m → p < states k r → x ≡ place (V j) p → ⊥) → get_or after x bare ≡ get_or before x bare
 
 module _ (k : Clock) (r : Sequence) (l : Letter) (V : ℕ → View) (m : ℕ) (enter : ℕ → ℕ → Bool) (before : List Places) where
-  pub swept_none : Swept k r l V m enter before before 0
-  swept_none = record { done = λ j h. absurd (omega arith); todo = λ j h g q. refl; rest = λ x h. refl }
-
   pub swept_more : Disjoint (states k r) V m → (S S' : List Places) (i : ℕ) → i < m → Swept k r l V m enter before S i
       → Advanced k r l (enter i) (V i) S S' → Swept k r l V m enter before S' (i + 1)
   swept_more apart S S' i h old (step, kept) = record {

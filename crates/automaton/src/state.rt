@@ -124,13 +124,8 @@ impl<'a> Part<'a> {
         match self.shape() {
             Shape::Stateless => false,
             Shape::Free(b) => letter.satisfies(b),
-            Shape::Clocked(c, b) => {
-                if q == 0 {
-                    !letter.mirror_satisfies(c)
-                } else {
-                    letter.satisfies(c) & letter.satisfies(b)
-                }
-            }
+            Shape::Clocked(c, _) if q == 0 => !letter.mirror_satisfies(c),
+            Shape::Clocked(c, b) => letter.satisfies(c) & letter.satisfies(b),
             Shape::Concat(r, s) => {
                 let n = r.states();
                 if q < n {

@@ -1,7 +1,6 @@
 pub mod Moves
 pub mod Facts
 pub mod Read
-pub mod Pairs
 pub mod Views
 pub mod PartMoves
 pub mod Sweep

@@ -16,7 +16,7 @@ clock_in p = clock_of p.clock
 
 -- the sequence
 abbrev pub sequence_of : Part → Sequence
-sequence_of p = tree (entries_of p.of.now) p.number
+sequence_of p = tree (entries_of p.automata.now) p.number
 
 -- how many states it has
 abbrev pub size : Part → ℕ

@@ -9,17 +9,17 @@ use crate::automata::Automata;
 use crate::node::Node;
 use psl::entry::Sequence;
 
-// A sequence by its number, under the clock that has the condition of that name, or free of a clock. It has few enough states to be followed.
+// A sequence by its number, under the clock of that name, if there is one. It has few enough states to be followed.
 #[derive(Clone, Copy)]
 pub(crate) struct Part<'a> {
-    of: &'a Automata,
+    automata: &'a Automata,
     number: u16,
     clock: Option<u16>,
-    ghost there: { number < length (entries_of of.now) },
-    ghost few: { states_of (clock_of clock) (tree (entries_of of.now) number) ≤ 240 },
+    ghost there: { number < length (entries_of automata.now) },
+    ghost few: { states_of (clock_of clock) (tree (entries_of automata.now) number) ≤ 240 },
 }
 
-// What a sequence is made of: a condition free of a clock, a condition under one (the clock's name first), or parts; or it has no state.
+// What a sequence is made of: a condition free of a clock; the clock's condition and a condition under it; or parts. Or it has no state.
 #[derive(Clone, Copy)]
 pub(crate) enum Shape<'a> {
     Stateless,
@@ -42,7 +42,7 @@ impl<'a> Part<'a> {
     pub(crate) fn node(self) -> Node
         ensures facts { Facts (sequence_of self.entry) result }
     {
-        self.of.node(self.number)
+        self.automata.node(self.number)
     }
 
     // How many states it has.
@@ -63,30 +63,29 @@ impl<'a> Part<'a> {
         if self.states() == 0 {
             return Shape::Stateless;
         }
-        match self.of.node(self.number).entry {
-            Sequence::Condition(b) => match self.clock {
+        let (automata, clock) = (self.automata, self.clock);
+        match automata.node(self.number).entry {
+            Sequence::Condition(b) => match clock {
                 None => Shape::Free(b),
                 Some(c) => Shape::Clocked(c, b),
             },
-            Sequence::Concat(a, b) => Shape::Concat(self.part(a), self.part(b)),
-            Sequence::Fusion(a, b) => Shape::Fusion(self.part(a), self.part(b)),
-            Sequence::Either(a, b) => Shape::Either(self.part(a), self.part(b)),
-            Sequence::Both(a, b) => Shape::Both(self.part(a), self.part(b)),
+            Sequence::Concat(a, b) => Shape::Concat(
+                automata.part(a, clock),
+                automata.part(b, clock),
+            ),
+            Sequence::Fusion(a, b) => Shape::Fusion(
+                automata.part(a, clock),
+                automata.part(b, clock),
+            ),
+            Sequence::Either(a, b) => Shape::Either(
+                automata.part(a, clock),
+                automata.part(b, clock),
+            ),
+            Sequence::Both(a, b) => Shape::Both(automata.part(a, clock), automata.part(b, clock)),
             Sequence::Empty => Shape::Stateless,
-            Sequence::Star(a) => Shape::Star(self.part(a)),
-            Sequence::At(a, d) => Shape::At(self.of.part(a, Some(d)), d),
+            Sequence::Star(a) => Shape::Star(automata.part(a, clock)),
+            Sequence::At(a, d) => Shape::At(automata.part(a, Some(d)), d),
         }
-    }
-
-    // The part with that number, under the same clock.
-    fn part(self, number: u16) -> Part<'a>
-        requires there { number < length (entries_of self.of.now) }
-        requires few { states_of (clock_of self.clock) (tree (entries_of self.of.now) number) ≤ 240 }
-        ensures of { result.of.now ≡ self.entry.of.now }
-        ensures number { result.number ≡ number }
-        ensures clock { result.clock ≡ self.entry.clock }
-    {
-        self.of.part(number, self.clock)
     }
 }
 
@@ -97,12 +96,12 @@ impl Automata {
     pub(crate) fn part(&self, number: u16, clock: Option<u16>) -> Part
         requires there { number < length (entries_of self.now) }
         requires few { states_of (clock_of clock) (tree (entries_of self.now) number) ≤ 240 }
-        ensures of { result.of.now ≡ self.now }
+        ensures automata { result.automata.now ≡ self.now }
         ensures number { result.number ≡ number }
         ensures clock { result.clock ≡ clock }
     {
         Part {
-            of: self,
+            automata: self,
             number,
             clock,
         }

@@ -14,7 +14,9 @@ pub(crate) struct Placed<'a> {
 }
 
 impl<'a> Placed<'a> {
-    ghost use Rattle.std.specs.Prelude.{◌≡◌, ◌+◌, ◌*◌, ◌<◌, ◌≤◌};
+    ghost use Rattle.std.specs.Prelude.{◌≡◌, ◌+◌, ◌<◌};
+    ghost use Rattle.automaton.specs.Parts.{ShapeOf};
+    ghost use Rattle.automaton.specs.declared.part.Shape.TheVariants.{Both};
     ghost use Rattle.automaton.specs.Standing.{Stands};
     ghost use Rattle.automaton.specs.Views.{behind as behind_of, column as column_of, row as row_of, whole};
 
@@ -30,7 +32,7 @@ impl<'a> Placed<'a> {
 
     // A part with as many states, at the same places.
     pub(crate) fn with(self, part: Part<'a>) -> Placed<'a>
-        requires same { size part ≡ size self.part }
+        requires { size part ≡ size self.part }
         ensures { Stands result part.entry self.entry.view }
     {
         Placed {
@@ -41,27 +43,24 @@ impl<'a> Placed<'a> {
 
     // The two parts of a sum: the states of the second stand behind those of the first.
     pub(crate) fn halves(self, r: Part<'a>, s: Part<'a>) -> (Placed<'a>, Placed<'a>)
-        requires sum { size self.part ≡ size r + size s }
+        requires { size self.part ≡ size r + size s }
         ensures first { Stands result.0 r.entry self.entry.view }
         ensures second { Stands result.1 s.entry (behind_of self.entry.view (size r.entry)) }
     {
+        let first = Placed {
+            part: r,
+            view: self.view,
+        };
         let second = Placed {
             part: s,
             view: self.view.behind(r.states()),
         };
-        (
-            Placed {
-                part: r,
-                view: self.view,
-            },
-            second,
-        )
+        (first, second)
     }
 
     // The first part of the pairs whose second part is state `p` of s.
     pub(crate) fn column(self, r: Part<'a>, s: Part<'a>, p: usize) -> Placed<'a>
-        requires product { size self.part ≡ size r * size s }
-        requires some { 1 ≤ size self.part }
+        requires parts { ShapeOf self.part (Both r s) }
         requires state { p < size s }
         ensures { Stands result r.entry (column_of self.entry.view p (size s.entry)) }
     {
@@ -73,8 +72,7 @@ impl<'a> Placed<'a> {
 
     // The second part of the pairs whose first part is state `q` of r.
     pub(crate) fn row(self, r: Part<'a>, s: Part<'a>, q: usize) -> Placed<'a>
-        requires product { size self.part ≡ size r * size s }
-        requires some { 1 ≤ size self.part }
+        requires parts { ShapeOf self.part (Both r s) }
         requires state { q < size r }
         ensures { Stands result s.entry (row_of self.entry.view q (size s.entry)) }
     {

@@ -33,7 +33,7 @@ impl<'a> Part<'a> {
             Shape::Concat(r, s) => {
                 let n = r.states();
                 if p < n {
-                    r.is_final(p) & s.node().null
+                    r.is_final(p) && s.node().null
                 } else {
                     s.is_final(p - n)
                 }
@@ -52,7 +52,7 @@ impl<'a> Part<'a> {
             }
             Shape::Both(r, s) => {
                 let (x, y) = pair(r, s, p);
-                r.is_final(x) & s.is_final(y)
+                r.is_final(x) && s.is_final(y)
             }
             Shape::Star(r) | Shape::At(r, _) => r.is_final(p),
         }
@@ -131,7 +131,7 @@ impl<'a> Part<'a> {
                 if q < n {
                     r.starts(letter, q)
                 } else {
-                    r.node().null & s.starts(letter, q - n)
+                    r.node().null && s.starts(letter, q - n)
                 }
             }
             Shape::Fusion(r, s) => {
@@ -139,7 +139,7 @@ impl<'a> Part<'a> {
                 if q < n {
                     r.starts(letter, q)
                 } else {
-                    r.single(letter) & s.starts(letter, q - n)
+                    r.single(letter) && s.starts(letter, q - n)
                 }
             }
             Shape::Either(r, s) => {
@@ -152,7 +152,7 @@ impl<'a> Part<'a> {
             }
             Shape::Both(r, s) => {
                 let (x, y) = pair(r, s, q);
-                r.starts(letter, x) & s.starts(letter, y)
+                r.starts(letter, x) && s.starts(letter, y)
             }
             Shape::Star(r) | Shape::At(r, _) => r.starts(letter, q),
         }

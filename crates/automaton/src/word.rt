@@ -4,6 +4,7 @@ ghost use Rattle.truth.specs.Rows.{row_at, tells as tells_of};
 
 use truth::row::{row, tells};
 
+// The rows of a word's letters, and those of their mirrors.
 #[derive(Clone, Copy)]
 pub struct Truth<'a> {
     pub own: &'a [u8],

@@ -67,11 +67,3 @@ module _ (v : View) (n m : ℕ) (fits : Fits v (n * m)) where
         let f : v.stride * (1 * m) ≡ v.stride * m = ap (λ (x : ℕ). v.stride * x) (omega arith) in let s = fits.spread in omega arith;
     room = λ p k. subst (λ (x : ℕ). x < 240) (sym (row_place v q m p)) (fits.room (q * m + p) (pair_below n m q p h k));
   }
-
-  pub column_spread : 1 ≤ n → v.stride * m ≤ 240
-  column_spread g =
-      let same : m ≤ m = omega arith in
-      let e : v.stride * (1 * m) ≤ v.stride * (n * m) = mul-le-mul (omega arith) (mul-le-mul g same) in
-      let f : v.stride * (1 * m) ≡ v.stride * m = ap (λ (x : ℕ). v.stride * x) (omega arith) in
-      let s = fits.spread in
-      omega arith

@@ -64,10 +64,11 @@ impl<'a> Placed<'a> {
         requires state { p < size s }
         ensures { Stands result r.entry (column_of self.entry.view p (size s.entry)) }
     {
-        Placed {
-            part: r,
-            view: self.view.column(p, s.states()),
-        }
+        let view = View {
+            base: self.view.place(p),
+            stride: self.view.stride * s.states(),
+        };
+        Placed { part: r, view }
     }
 
     // The second part of the pairs whose first part is state `q` of r.
@@ -76,9 +77,7 @@ impl<'a> Placed<'a> {
         requires state { q < size r }
         ensures { Stands result s.entry (row_of self.entry.view q (size s.entry)) }
     {
-        Placed {
-            part: s,
-            view: self.view.behind(q * s.states()),
-        }
+        let view = self.view.behind(q * s.states());
+        Placed { part: s, view }
     }
 }

@@ -12,4 +12,4 @@ invariant_of-result c =
     let r = c.args.r in
     let s = c.args.s in
     let fits = fits_row w.view (size r) (size s) (pairs_fit w r s c.requires.parts) c.args.q c.requires.state (pairs_some w.part r s c.requires.parts).1 in
-    record { fits = subst (λ (v : View). Fits v (size s)) (sym (c.behind.ensures.value ∙ ap (row w.view c.args.q) c.states.ensures.value)) fits }
+    record { fits = subst (λ (v : View). Fits v (size s)) (sym (c.behind-view.ensures.value ∙ ap (row w.view c.args.q) c.states.ensures.value)) fits }

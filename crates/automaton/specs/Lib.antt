@@ -7,3 +7,4 @@ pub mod Parts
 pub mod Views
 pub mod Reached
 pub mod Standing
+pub mod States

@@ -67,7 +67,8 @@ impl<'a> Placed<'a> {
             Shape::Both(r, s) => {
                 let mut found = Places::none();
                 for p in 0..r.states() {
-                    found.gather(&self.row(r, s, p).ended(starts), r.is_final(p));
+                    let first = r.state(p);
+                    found.gather(&self.row(first, s).ended(starts), first.is_final());
                 }
                 found
             }
@@ -129,12 +130,13 @@ impl<'a> Placed<'a> {
     {
         let none = Places::none();
         for p in 0..s.states() {
-            self.column(r, s, p).advance(letter, &none, starts);
+            self.column(r, s.state(p)).advance(letter, &none, starts);
         }
         for q in 0..r.states() {
-            let mut first = *enter;
-            first.keep(r.starts(letter, q));
-            self.row(r, s, q).advance(letter, &first, starts);
+            let first = r.state(q);
+            let mut entering = *enter;
+            entering.keep(first.starts(letter));
+            self.row(first, s).advance(letter, &entering, starts);
         }
     }
 }

@@ -3,6 +3,7 @@ ghost use Rattle.automaton.specs.Parts.{size};
 ghost use Rattle.automaton.specs.Views.{Fits};
 
 use crate::part::Part;
+use crate::state::State;
 use crate::view::View;
 
 // A part, and where its states stand: each among 240, at a place of its own.
@@ -58,26 +59,24 @@ impl<'a> Placed<'a> {
         (first, second)
     }
 
-    // The first part of the pairs whose second part is state `p` of s.
-    pub(crate) fn column(self, r: Part<'a>, s: Part<'a>, p: usize) -> Placed<'a>
-        requires parts { ShapeOf self.part (Both r s) }
-        requires state { p < size s }
-        ensures { Stands result r.entry (column_of self.entry.view p (size s.entry)) }
+    // The first part r of the pairs whose second part is that state.
+    pub(crate) fn column(self, r: Part<'a>, second: State<'a>) -> Placed<'a>
+        requires { ShapeOf self.part (Both r second.part) }
+        ensures { Stands result r.entry (column_of self.entry.view second.entry.number (size second.entry.part)) }
     {
         let view = View {
-            base: self.view.place(p),
-            stride: self.view.stride * s.states(),
+            base: self.view.place(second.number),
+            stride: self.view.stride * second.part.states(),
         };
         Placed { part: r, view }
     }
 
-    // The second part of the pairs whose first part is state `q` of r.
-    pub(crate) fn row(self, r: Part<'a>, s: Part<'a>, q: usize) -> Placed<'a>
-        requires parts { ShapeOf self.part (Both r s) }
-        requires state { q < size r }
-        ensures { Stands result s.entry (row_of self.entry.view q (size s.entry)) }
+    // The second part s of the pairs whose first part is that state.
+    pub(crate) fn row(self, first: State<'a>, s: Part<'a>) -> Placed<'a>
+        requires { ShapeOf self.part (Both first.part s) }
+        ensures { Stands result s.entry (row_of self.entry.view first.entry.number (size s.entry)) }
     {
-        let view = self.view.behind(q * s.states());
+        let view = self.view.behind(first.number * s.states());
         Placed { part: s, view }
     }
 }

@@ -19,7 +19,7 @@ impl<'a> Part<'a> {
     {
         let mut found = Places::none();
         for p in 0..self.states() {
-            found.gather(&starts.of(View::whole(), p), self.is_live(p));
+            found.gather(&starts.of(View::whole(), p), self.state(p).is_live());
         }
         found
     }

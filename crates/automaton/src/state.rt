@@ -1,102 +1,37 @@
 // The states of a sequence, by number: which are ends, where a letter leads from the start, and from which tops go on to an end.
-ghost use Rattle.std.specs.Prelude.{◌≡◌, ℕ, ◌*◌, ◌/◌, ◌%◌, ◌<◌};
-ghost use Rattle.psl.specs.Automaton.{single as single_of};
-ghost use Rattle.psl.specs.Numbered.{numbered_final, numbered_init, numbered_live};
-ghost use Rattle.automaton.specs.Clocks.{letter_in};
-ghost use Rattle.automaton.specs.Parts.{clock_in, sequence_of, size};
+ghost use Rattle.std.specs.Prelude.{◌<◌};
+ghost use Rattle.automaton.specs.Parts.{size};
 
 use crate::part::{Part, Shape};
 use crate::word::Letter;
 
-// The two states, of r and of s, that make up state `p` of r && s.
-fn pair(r: Part, s: Part, p: usize) -> (usize, usize)
-    requires { p < size r * size s }
-    ensures first { result.0 ≡ p / size s.entry }
-    ensures second { result.1 ≡ p % size s.entry }
-    ensures below_first { result.0 < size r.entry }
-    ensures below_second { result.1 < size s.entry }
-{
-    let m = s.states();
-    (p / m, p % m)
+// A state of a sequence, by its number.
+#[derive(Clone, Copy)]
+pub(crate) struct State<'a> {
+    pub(crate) part: Part<'a>,
+    pub(crate) number: usize,
+    ghost there: { number < size part },
+}
+
+// A state of a sequence that has the states of two: one of the first, or one of the second.
+enum Half<'a> {
+    First(State<'a>),
+    Second(State<'a>),
 }
 
 impl<'a> Part<'a> {
-    // Whether a match may end in state `p`.
-    pub(crate) fn is_final(self, p: usize) -> bool
-        requires state { p < size self }
-        ensures value { result ≡ numbered_final (clock_in self.entry) (sequence_of self.entry) p }
-    {
-        match self.shape() {
-            Shape::Stateless => false,
-            Shape::Free(_) => true,
-            Shape::Clocked(_, _) => p == 1,
-            Shape::Concat(r, s) => {
-                let n = r.states();
-                if p < n {
-                    r.is_final(p) && s.node().null
-                } else {
-                    s.is_final(p - n)
-                }
-            }
-            Shape::Fusion(r, s) => {
-                let n = r.states();
-                p >= n && s.is_final(p - n)
-            }
-            Shape::Either(r, s) => {
-                let n = r.states();
-                if p < n {
-                    r.is_final(p)
-                } else {
-                    s.is_final(p - n)
-                }
-            }
-            Shape::Both(r, s) => {
-                let (x, y) = pair(r, s, p);
-                r.is_final(x) && s.is_final(y)
-            }
-            Shape::Star(r) | Shape::At(r, _) => r.is_final(p),
-        }
-    }
+    ghost use Rattle.std.specs.Prelude.{◌≡◌};
+    ghost use Rattle.psl.specs.Automaton.{single as single_of};
+    ghost use Rattle.automaton.specs.Clocks.{letter_in};
+    ghost use Rattle.automaton.specs.Parts.{clock_in, sequence_of};
+    ghost use Rattle.automaton.specs.States.{IsState};
 
-    // Whether some tops, one or more, complete a match from state `p`.
-    pub(crate) fn is_live(self, p: usize) -> bool
-        requires state { p < size self }
-        ensures value { result ≡ numbered_live (clock_in self.entry) (sequence_of self.entry) p }
+    // The state with that number.
+    pub(crate) fn state(self, number: usize) -> State<'a>
+        requires { number < size self }
+        ensures { IsState result self.entry number }
     {
-        match self.shape() {
-            Shape::Stateless | Shape::Free(_) => false,
-            Shape::Clocked(_, _) => p == 0,
-            Shape::Concat(r, s) => {
-                let (n, second) = (r.states(), s.node());
-                if p < n {
-                    (r.is_final(p) & second.live) | (r.is_live(p) & (second.null | second.live))
-                } else {
-                    s.is_live(p - n)
-                }
-            }
-            Shape::Fusion(r, s) => {
-                let n = r.states();
-                if p < n {
-                    r.is_live(p) & s.node().live
-                } else {
-                    s.is_live(p - n)
-                }
-            }
-            Shape::Either(r, s) => {
-                let n = r.states();
-                if p < n {
-                    r.is_live(p)
-                } else {
-                    s.is_live(p - n)
-                }
-            }
-            Shape::Both(r, s) => {
-                let (x, y) = pair(r, s, p);
-                r.is_live(x) & s.is_live(y)
-            }
-            Shape::Star(r) => (r.is_final(p) & r.node().live) | r.is_live(p),
-            Shape::At(r, _) => r.is_live(p),
-        }
+        State { part: self, number }
     }
 
     // Whether the sequence matches the letter alone.
@@ -115,46 +50,127 @@ impl<'a> Part<'a> {
             Shape::Star(r) | Shape::At(r, _) => r.single(letter),
         }
     }
+}
 
-    // From the start, whether the letter may lead to state `q`.
-    pub(crate) fn starts(self, letter: Letter, q: usize) -> bool
-        requires state { q < size self }
-        ensures value { result ≡ numbered_init (clock_in self.entry) (sequence_of self.entry) (letter_in letter.entry) q }
+impl<'a> State<'a> {
+    ghost use Rattle.std.specs.Prelude.{◌≡◌, ◌+◌, ◌/◌, ◌%◌};
+    ghost use Rattle.psl.specs.Numbered.{numbered_final, numbered_init, numbered_live};
+    ghost use Rattle.automaton.specs.Clocks.{letter_in};
+    ghost use Rattle.automaton.specs.Parts.{clock_in, sequence_of, ShapeOf};
+    ghost use Rattle.automaton.specs.declared.part.Shape.TheVariants.{Both};
+    ghost use Rattle.automaton.specs.States.{IsState, HalfOf};
+
+    // As a state of r or of s, where its sequence has the states of both.
+    fn half(self, r: Part<'a>, s: Part<'a>) -> Half<'a>
+        requires { size self.part ≡ size r + size s }
+        ensures { HalfOf self.entry r.entry s.entry result }
     {
-        match self.shape() {
+        let n = r.states();
+        if self.number < n {
+            Half::First(r.state(self.number))
+        } else {
+            Half::Second(s.state(self.number - n))
+        }
+    }
+
+    // The states of r and of s that make it up, where its sequence is r && s.
+    fn pair(self, r: Part<'a>, s: Part<'a>) -> (State<'a>, State<'a>)
+        requires { ShapeOf self.part (Both r s) }
+        ensures first { IsState result.0 r.entry (self.entry.number / size s.entry) }
+        ensures second { IsState result.1 s.entry (self.entry.number % size s.entry) }
+    {
+        let m = s.states();
+        (r.state(self.number / m), s.state(self.number % m))
+    }
+
+    // Whether a match may end in it.
+    pub(crate) fn is_final(self) -> bool
+        ensures value { result ≡ numbered_final (clock_in self.entry.part) (sequence_of self.entry.part) self.entry.number }
+    {
+        match self.part.shape() {
+            Shape::Stateless => false,
+            Shape::Free(_) => true,
+            Shape::Clocked(_, _) => self.number == 1,
+            Shape::Concat(r, s) => match self.half(r, s) {
+                Half::First(p) => p.is_final() && s.node().null,
+                Half::Second(q) => q.is_final(),
+            },
+            Shape::Fusion(r, s) => match self.half(r, s) {
+                Half::First(_) => false,
+                Half::Second(q) => q.is_final(),
+            },
+            Shape::Either(r, s) => match self.half(r, s) {
+                Half::First(p) => p.is_final(),
+                Half::Second(q) => q.is_final(),
+            },
+            Shape::Both(r, s) => {
+                let (p, q) = self.pair(r, s);
+                p.is_final() && q.is_final()
+            }
+            Shape::Star(r) | Shape::At(r, _) => r.state(self.number).is_final(),
+        }
+    }
+
+    // Whether some tops, one or more, complete a match from it.
+    pub(crate) fn is_live(self) -> bool
+        ensures value { result ≡ numbered_live (clock_in self.entry.part) (sequence_of self.entry.part) self.entry.number }
+    {
+        match self.part.shape() {
+            Shape::Stateless | Shape::Free(_) => false,
+            Shape::Clocked(_, _) => self.number == 0,
+            Shape::Concat(r, s) => match self.half(r, s) {
+                Half::First(p) => {
+                    let second = s.node();
+                    (p.is_final() & second.live) | (p.is_live() & (second.null | second.live))
+                }
+                Half::Second(q) => q.is_live(),
+            },
+            Shape::Fusion(r, s) => match self.half(r, s) {
+                Half::First(p) => p.is_live() & s.node().live,
+                Half::Second(q) => q.is_live(),
+            },
+            Shape::Either(r, s) => match self.half(r, s) {
+                Half::First(p) => p.is_live(),
+                Half::Second(q) => q.is_live(),
+            },
+            Shape::Both(r, s) => {
+                let (p, q) = self.pair(r, s);
+                p.is_live() & q.is_live()
+            }
+            Shape::Star(r) => {
+                let p = r.state(self.number);
+                (p.is_final() & r.node().live) | p.is_live()
+            }
+            Shape::At(r, _) => r.state(self.number).is_live(),
+        }
+    }
+
+    // Whether the letter may lead to it from the start.
+    pub(crate) fn starts(self, letter: Letter) -> bool
+        ensures value { result ≡ numbered_init (clock_in self.entry.part) (sequence_of self.entry.part) (letter_in letter.entry) self.entry.number }
+    {
+        match self.part.shape() {
             Shape::Stateless => false,
             Shape::Free(b) => letter.satisfies(b),
-            Shape::Clocked(c, _) if q == 0 => !letter.mirror_satisfies(c),
+            Shape::Clocked(c, _) if self.number == 0 => !letter.mirror_satisfies(c),
             Shape::Clocked(c, b) => letter.satisfies(c) & letter.satisfies(b),
-            Shape::Concat(r, s) => {
-                let n = r.states();
-                if q < n {
-                    r.starts(letter, q)
-                } else {
-                    r.node().null && s.starts(letter, q - n)
-                }
-            }
-            Shape::Fusion(r, s) => {
-                let n = r.states();
-                if q < n {
-                    r.starts(letter, q)
-                } else {
-                    r.single(letter) && s.starts(letter, q - n)
-                }
-            }
-            Shape::Either(r, s) => {
-                let n = r.states();
-                if q < n {
-                    r.starts(letter, q)
-                } else {
-                    s.starts(letter, q - n)
-                }
-            }
+            Shape::Concat(r, s) => match self.half(r, s) {
+                Half::First(p) => p.starts(letter),
+                Half::Second(q) => r.node().null && q.starts(letter),
+            },
+            Shape::Fusion(r, s) => match self.half(r, s) {
+                Half::First(p) => p.starts(letter),
+                Half::Second(q) => r.single(letter) && q.starts(letter),
+            },
+            Shape::Either(r, s) => match self.half(r, s) {
+                Half::First(p) => p.starts(letter),
+                Half::Second(q) => q.starts(letter),
+            },
             Shape::Both(r, s) => {
-                let (x, y) = pair(r, s, q);
-                r.starts(letter, x) && s.starts(letter, y)
+                let (p, q) = self.pair(r, s);
+                p.starts(letter) && q.starts(letter)
             }
-            Shape::Star(r) | Shape::At(r, _) => r.starts(letter, q),
+            Shape::Star(r) | Shape::At(r, _) => r.state(self.number).starts(letter),
         }
     }
 }

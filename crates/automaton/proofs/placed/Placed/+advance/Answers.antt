@@ -6,8 +6,9 @@ use Rattle.psl.specs.Numbered.{numbered_init}
 use Rattle.psl.specs.OptionalClock as clocks
 use Rattle.psl.specs.Syntax.{atom}
 use Rattle.psl.proofs.Numbered.{init_numbered}
+use Rattle.automaton.specs.declared.part.Part.{Part}
 use Rattle.automaton.specs.Clocks.{letter_in}
-use Rattle.automaton.specs.Parts.{clock_in, sequence_of}
+use Rattle.automaton.specs.Parts.{clock_in, sequence_of, size}
 use Rattle.automaton.specs.Standing.{Stands}
 use Rattle.automaton.specs.Views.{column, row, EndedIn, Advanced}
 use Rattle.automaton.proofs.PartMoves.{enter_same, none_advanced, concat_advanced, fusion_advanced, either_advanced, star_advanced}
@@ -163,7 +164,10 @@ advance_pairs-loop-p-preserved t c =
     let S2 = c.advance.new.starts.sets in
     let none = member c.none-none.result in
     let below : c.loop-p.p < m = omega (arith, c.loop-p-test.true, c.states-p-end.ensures.value, ap (λ k. states k (sequence_of s)) ks) in
-    let stands : Stands c.column.result r (column v c.loop-p.p m) = (c.column.ensures.0, c.column.ensures.1 ∙ ap (λ k. column v c.loop-p.p (states k (sequence_of s))) ks) in
+    let stands : Stands c.column.result r (column v c.loop-p.p m) = (
+      c.column.ensures.0,
+      c.column.ensures.1 ∙ ap₂ (λ (o : Part) (j : ℕ). column v j (size o)) c.state.ensures.0 c.state.ensures.1 ∙ ap (λ k. column v c.loop-p.p (states k (sequence_of s))) ks,
+    ) in
     let step = told (λ k q v. Advanced k q l none v S1 S2) c.column.result r k (column v c.loop-p.p m) (same_clock p r a) stands c.advance.ensures in
     swept_more k (sequence_of r) l (λ j. column v j m) m (λ j x. false) S (columns_apart v c.args.self.fits.apart (states k (sequence_of r)) m) S1 S2 c.loop-p.p below c.loop-p.invariant
     (enter_same k (sequence_of r) l none (λ x. false) (column v c.loop-p.p m) S1 S2 c.none-none.ensures.items step)
@@ -188,12 +192,14 @@ advance_pairs-loop-q-preserved t c =
     let S2 = c.advance-in-loop-q.new.starts.sets in
     let first = member c.keep.new.self in
     let below : q < n = omega (arith, c.loop-q-test.true, c.states-q-end.ensures.value, ap (λ k. states k (sequence_of r)) kr) in
-    let stands : Stands c.row.result s (row v q m) = (c.row.ensures.0, c.row.ensures.1 ∙ ap (λ k. row v q (states k (sequence_of s))) ks) in
+    let stands : Stands c.row.result s (row v q m) = (c.row.ensures.0, c.row.ensures.1 ∙ ap (λ (j : ℕ). row v j (size s)) c.state-first.ensures.1 ∙ ap (λ k. row v q (states k (sequence_of s))) ks) in
+    let start = c.starts.ensures.value ∙ ap₂ (λ (o : Part) (j : ℕ). numbered_init (clock_in o) (sequence_of o) l j) c.state-first.ensures.0 c.state-first.ensures.1
+    ∙ ap (λ k. numbered_init k (sequence_of r) l q) kr in
     let step = told (λ k q v. Advanced k q l first v S1 S2) c.row.result s k (row v q m) ks stands c.advance-in-loop-q.ensures in
     swept_more k (sequence_of s) l (λ j. row v j m) n (λ j x. enter x && numbered_init k (sequence_of r) l j) c.loop-p.starts.sets
     (rows_apart v c.args.self.fits.apart n m) S1 S2 q below c.loop-q.invariant
     (enter_same k (sequence_of s) l first (λ x. enter x && numbered_init k (sequence_of r) l q) (row v q m) S1 S2
-    (λ x. c.keep.ensures.items x ∙ ap (λ (b : Bool). enter x && b) (c.starts.ensures.value ∙ ap (λ k. numbered_init k (sequence_of r) l q) kr)) step)
+    (λ x. c.keep.ensures.items x ∙ ap (λ (b : Bool). enter x && b) start) step)
 
 pub advance_pairs-returns : goal.advance_pairs-returns
 advance_pairs-returns t c =

@@ -35,6 +35,7 @@ impl Automata {
     ghost use Rattle.automaton.specs.Automata.{entries_of, Known};
 
     // The sequences of the table, up to the first that names itself or a later one, and 256 at most.
+    #[tactic(auto, using(crate::proofs::Read::few_entries), unfolding(crate::specs::Automata::entries_of))]
     pub fn new(table: &[Sequence]) -> Automata
         ensures front { entries_of result ≡ take (length (entries_of result)) table.now }
         ensures lower { AllLower (entries_of result) }
@@ -68,6 +69,7 @@ impl Automata {
     }
 
     // Sequence `i`, which is there.
+    #[tactic(auto, using(crate::proofs::Read::length_entries, crate::proofs::Read::shape_at), unfolding(crate::specs::Automata::entries_of))]
     pub(crate) fn node(&self, i: u16) -> Node
         requires { i < length (entries_of self.now) }
         ensures { Known (entries_of self.now) i result }

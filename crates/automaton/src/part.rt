@@ -46,6 +46,7 @@ impl<'a> Part<'a> {
     }
 
     // How many states it has.
+    #[tactic(auto, using(crate::proofs::Facts::states_on))]
     pub(crate) fn states(self) -> usize
         ensures value { result ≡ size self.entry }
     {

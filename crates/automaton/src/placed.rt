@@ -43,6 +43,7 @@ impl<'a> Placed<'a> {
     }
 
     // The two parts of a sum: the states of the second stand behind those of the first.
+    #[tactic(auto, using(crate::proofs::Views::fits_behind))]
     pub(crate) fn halves(self, r: Part<'a>, s: Part<'a>) -> (Placed<'a>, Placed<'a>)
         requires { size self.part ≡ size r + size s }
         ensures first { Stands result.0 r.entry self.entry.view }

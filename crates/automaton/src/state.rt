@@ -35,6 +35,7 @@ impl<'a> Part<'a> {
     }
 
     // Whether the sequence matches the letter alone.
+    #[tactic(auto, using(crate::proofs::Moves::single_none))]
     pub(crate) fn single(self, letter: Letter) -> bool
         ensures value { result ≡ single_of (clock_in self.entry) (sequence_of self.entry) (letter_in letter.entry) }
     {

@@ -1,5 +1,6 @@
 -- What the starts of a stretch of letters have reached, after each letter and in the end.
 use Rattle.std.proofs.Common.{◌≡◌, ℕ, zero, suc, ◌+◌, ◌-◌, ◌<◌, ◌≤◌, Bool, true, false, ◌&&◌, ◌||◌, eqb, ltb, leb, ◌⊎◌, List, length, take, sym, refl, ap, ◌∙◌, ap₂, inl, inr, arith}
+use Rattle.std.proofs.Math.Bool.{and_comm}
 use Rattle.std.proofs.lemmas.Bool.{cases_lt, cases_order}
 use Rattle.std.proofs.lemmas.Bool.Decides.{nat_tests}
 use Rattle.bits.specs.declared.places.Places.{Places}
@@ -19,18 +20,10 @@ some_same : (n : ℕ) (P Q : ℕ → Bool) → ((j : ℕ) → j < n → P j ≡ 
 some_same zero P Q h = refl
 some_same (suc n) P Q h = ap₂ ◌||◌ (some_same n P Q (λ j g. h j (omega arith))) (h n (omega arith))
 
-swap_and : (a b : Bool) → (a && b) ≡ (b && a)
-swap_and a b = grind (arith, nat_tests)
-
 module _ (own other : List ℕ) (k : Clock) (r : Sequence) (targets : ℕ → Bool) where
   -- the letters from x to j places on match, and there is a target
   abbrev hits : ℕ → ℕ → Bool
   hits x j = accepts k r (word own other x (suc j)) && targets (x + j)
-
-  -- before the first letter nothing is found
-  pub found_none : (lo : ℕ) (p : Places) → ((x : ℕ) → member p x ≡ false) → Found own other k r targets lo lo p
-  found_none lo p h x =
-      h x ∙ sym (outside own other k r lo lo (omega arith) (some_below (lo - x) (hits x)) x (cases_lt x lo))
 
   module _ (lo i : ℕ) (order : lo ≤ i) where
     -- after a letter those are found too that end at a target there
@@ -116,7 +109,7 @@ module _ (own other : List ℕ) (k : Clock) (r : Sequence) (targets : ℕ → Bo
             ∙ within own other k r lo hi order (some_below (hi - x) (hits x)) x a b
             ∙ some_same (hi - x) (hits x) _ (λ j low. ap (λ u. accepts k r u && targets (x + j)) (sym (take_word own other x (suc j) (hi - x) (omega arith))))
             ∙ ap (λ (m : ℕ). some_below m (λ j. accepts k r (take (suc j) (word own other x (hi - x))) && targets (x + j))) (sym many) in
-            ap₂ (λ (a b : Bool). (a && flag) || b) e (ap₂ (λ (a b : Bool). a || b) met (ap (λ (b : Bool). b && beyond) on ∙ swap_and _ beyond))
+            ap₂ (λ (a b : Bool). (a && flag) || b) e (ap₂ (λ (a b : Bool). a || b) met (ap (λ (b : Bool). b && beyond) on ∙ and_comm (extends k r (word own other x (hi - x))) beyond))
             ∙ sym (ap (λ (b : Bool). b && reach k r (λ j. targets (x + j)) beyond (word own other x (hi - x))) o)
 
         go : (x < lo) ⊎ (lo ≤ x) → (x ≡ hi) ⊎ ((x < hi) ⊎ (hi < x)) → Here f h beyond flag x

@@ -1,5 +1,6 @@
 -- What has ended in the states of a sequence, by its parts.
 use Rattle.std.proofs.Common.{◌≡◌, ℕ, Bool, true, false, ◌&&◌, ◌||◌, List, get_or, sym, ap, ◌∙◌, ap₂, inl, inr, arith}
+use Rattle.std.proofs.Math.Bool.{or_comm}
 use Rattle.std.proofs.lemmas.Bool.Decides.{nat_tests}
 use Rattle.bits.specs.declared.places.Places.{Places}
 use Rattle.bits.specs.Member.{member}
@@ -9,13 +10,13 @@ use Rattle.psl.specs.Evaluation.{some_below}
 use Rattle.psl.specs.Numbered.{number, numbered_final}
 use Rattle.psl.specs.OptionalClock.{Clock, free, on}
 use Rattle.psl.proofs.Accept.{any_in, any_out}
-use Rattle.psl.proofs.Number.{some_any, number_below}
+use Rattle.psl.proofs.Number.{some_any}
 use Rattle.psl.proofs.Numbered.{final_numbered}
 use Rattle.psl.proofs.Tests.{and_in, and_out, same_test}
 use Rattle.automaton.specs.declared.view.View.{View}
 use Rattle.automaton.specs.Moves.{ended}
 use Rattle.automaton.specs.Views.{place, behind, row, bare, starts_in, EndedIn}
-use Rattle.automaton.proofs.Moves.{any_none, any_factor, two_of, any_two}
+use Rattle.automaton.proofs.Moves.{any_none, ended_none, any_factor, two_of, any_two}
 use Rattle.automaton.proofs.PartMoves.{ended_same, behind_starts}
 use Rattle.automaton.proofs.Views.{row_place}
 
@@ -38,11 +39,8 @@ module _ (k : Clock) (r s : Sequence) (v : View) (S : List Places) (p q : Places
   pub concat_ended : (found : Places) → ((x : ℕ) → member found x ≡ (member q x || (member p x && null s))) → EndedIn k (concat r s) v S found
   concat_ended found is x =
       is x ∙ ap₂ (λ (a b : Bool). a || (b && null s)) (second_ended x) (first x)
-      ∙ same (ended k s (λ o. starts_in S v k (concat r s) x (inr o))) (ended k r (starts_in S v k r x) && null s)
+      ∙ or_comm (ended k s (λ o. starts_in S v k (concat r s) x (inr o))) (ended k r (starts_in S v k r x) && null s)
       ∙ ap (λ (b : Bool). b || ended k s (λ o. starts_in S v k (concat r s) x (inr o))) (sym (any_factor k r (starts_in S v k r x) (final k r) (null s)))
-    where
-      same : (a b : Bool) → (a || b) ≡ (b || a)
-      same a b = grind (arith, nat_tests)
 
   pub either_ended : (found : Places) → ((x : ℕ) → member found x ≡ (member p x || member q x)) → EndedIn k (either r s) v S found
   either_ended found is x = is x ∙ ap₂ ◌||◌ (first x) (second_ended x)
@@ -81,5 +79,4 @@ module _ (k : Clock) (r s : Sequence) (v : View) (S : List Places) where
 
 -- no state, and no end
 pub none_ended : (k : Clock) (r : Sequence) (v : View) (S : List Places) (found : Places) → states k r ≡ 0 → ((x : ℕ) → member found x ≡ false) → EndedIn k r v S found
-none_ended k r v S found e is x =
-    is x ∙ sym (same_test (ended k r (starts_in S v k r x)) false (λ t. let (p, y) = any_out k r _ t in let h = number_below k r p in absurd (omega arith)) (λ t. absurd t))
+none_ended k r v S found e is x = is x ∙ sym (ended_none k r (starts_in S v k r x) e)

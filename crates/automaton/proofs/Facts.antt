@@ -1,7 +1,7 @@
 -- What is known of a sequence, from what is known of its parts.
 use Rattle.std.proofs.Common.{◌≡◌, ℕ, zero, suc, ◌+◌, ◌*◌, ◌<◌, ◌≤◌, ◌&&◌, ◌⊎◌, refl, ap, ◌∙◌, ap₂, inl, inr, mul_comm, mul-le-mul, mul-zero, arith}
 use Rattle.std.proofs.lemmas.Bool.{cases_lt}
-use Rattle.psl.specs.Syntax.{Condition, Sequence, condition, concat, fusion, either, both, empty, star, sequence_at}
+use Rattle.psl.specs.Syntax.{truth, Condition, Sequence, condition, concat, fusion, either, both, empty, star, sequence_at}
 use Rattle.psl.specs.Automaton.{states}
 use Rattle.psl.specs.OptionalClock.{on}
 use Rattle.psl.specs.declared.entry.Sequence as entry
@@ -51,3 +51,15 @@ pub both_facts : (e : entry.Sequence) (r s : Sequence) (x y : Node) → Facts r 
   live = x.live && y.live;
 })
 both_facts e r s x y f g = (multiply _ _ _ _ f.0 g.0, multiply _ _ _ _ f.1 g.1, ap₂ ◌&&◌ f.2 g.2, ap₂ ◌&&◌ f.3 g.3)
+
+-- r@d has as many states under any clock as r has under one
+pub at_facts : (e : entry.Sequence) (r : Sequence) (d : Condition) (x : Node) → Facts r x → Facts (sequence_at r d) (record {
+  entry = e;
+  free = capped x.clocked;
+  clocked = capped x.clocked;
+  null = x.null;
+  live = x.live;
+})
+at_facts e r d x f =
+    let same : capped x.clocked ≡ capped (states (on d) r) = omega (arith, f.1, ap capped (states_on truth d r)) in
+    (same, same, f.2, f.3)

@@ -88,9 +88,6 @@ module _ (own other : List ℕ) where
           let e : ltb x i ≡ true = grind (arith, nat_tests) in
           ap₂ (λ (c f : Bool). (c && f) && b) d e
 
-    pub followed_none : (lo : ℕ) (S : List Places) → ((q : State k r) (x : ℕ) → starts_in S whole k r x q ≡ false) → Followed lo lo S
-    followed_none lo S h q x = h q x ∙ sym (outside lo lo (omega arith) (after x (lo - x) q) x (cases_lt x lo))
-
     module _ (lo i : ℕ) (order : lo ≤ i) where
       pub followed_more : (S S' : List Places) (here : ℕ → Bool) → ((x : ℕ) → here x ≡ eqb x i) → Followed lo i S
           → MovedBy k r (letter_at own other i) here whole S S' → Followed lo (i + 1) S'

@@ -1,11 +1,10 @@
 pub mod Moves
 pub mod Facts
 pub mod Read
-pub mod Pairs
 pub mod Views
 pub mod PartMoves
 pub mod Sweep
-pub mod ConditionMoves
 pub mod Ends
 pub mod Follow
 pub mod Arrive
+pub mod Standing

@@ -3,9 +3,10 @@ use Rattle.std.proofs.Common.{◌≡◌, Bool, false, ◌&&◌, ◌||◌, T, ◌
 use Rattle.std.proofs.lemmas.Bool.Decides.{nat_tests}
 use Rattle.psl.specs.Syntax.{Sequence, concat, fusion, either, both, star}
 use Rattle.psl.specs.Letter.{Letter}
-use Rattle.psl.specs.Automaton.{State, null, final, single, last, init, step, any}
+use Rattle.psl.specs.Automaton.{State, states, null, final, single, last, init, step, any}
 use Rattle.psl.specs.OptionalClock.{Clock}
 use Rattle.psl.proofs.Accept.{any_in, any_out, single_right, last_right, accepts_right, completes_right}
+use Rattle.psl.proofs.Number.{number_below}
 use Rattle.psl.proofs.Tests.{and_in, and_out, or_left, or_right, or_out, same_test, iff_trans, iff_sym}
 use Rattle.automaton.specs.Moves.{moved, ended}
 
@@ -29,6 +30,10 @@ module _ (k : Clock) (r : Sequence) (X F : State k r → Bool) where
 
 pub any_none : (k : Clock) (r : Sequence) (X : State k r → Bool) → any k r (λ p. X p && false) ≡ false
 any_none k r X = same_test (any k r (λ p. X p && false)) false (λ t. (two_of k r X (λ p. false) t).2) (λ t. absurd t)
+
+-- no state, and no end
+pub ended_none : (k : Clock) (r : Sequence) (S : State k r → Bool) → states k r ≡ 0 → ended k r S ≡ false
+ended_none k r S e = same_test (ended k r S) false (λ t. let (p, y) = any_out k r _ t in let h = number_below k r p in absurd (omega arith)) (λ t. absurd t)
 
 -- what does not depend on the state
 pub any_factor : (k : Clock) (r : Sequence) (X F : State k r → Bool) (i : Bool) → any k r (λ p. X p && (F p && i)) ≡ (any k r (λ p. X p && F p) && i)
@@ -97,6 +102,10 @@ single_ends : (k : Clock) (r : Sequence) (l : Letter) → single k r l ≡ ended
 single_ends k r l =
     let same = iff_trans (iff_sym (single_right k r l)) (accepts_right k r (l ∷ [])) in
     same_test (single k r l) (ended k r (init k r l)) same.0 same.1
+
+-- without states there is no such match
+pub single_none : (k : Clock) (r : Sequence) (l : Letter) → states k r ≡ 0 → single k r l ≡ false
+single_none k r l e = single_ends k r l ∙ ended_none k r (init k r l) e
 
 -- a match that a letter completes, by the state after it
 last_ends : (k : Clock) (r : Sequence) (l : Letter) (p : State k r) → last k r l p ≡ ended k r (step k r l p)

@@ -10,7 +10,7 @@ use Rattle.psl.specs.OptionalClock.{Clock}
 use Rattle.psl.proofs.Number.{number_below}
 use Rattle.automaton.specs.declared.view.View.{View}
 use Rattle.automaton.specs.Moves.{moved, ended}
-use Rattle.automaton.specs.Views.{place, behind, bare, starts_in, MovedBy, Kept}
+use Rattle.automaton.specs.Views.{place, behind, bare, starts_in, MovedBy, Kept, Advanced}
 use Rattle.automaton.proofs.Moves.{any_same, sum_left, either_right, concat_right, fusion_right, star_again}
 use Rattle.automaton.proofs.Views.{place_apart, behind_place}
 
@@ -23,13 +23,10 @@ moved_same k r l e f S R q h g =
 pub ended_same : (k : Clock) (r : Sequence) (S R : State k r → Bool) → ((p : State k r) → S p ≡ R p) → ended k r S ≡ ended k r R
 ended_same k r S R g = any_same k r _ _ (λ p. ap (λ (b : Bool). b && final k r p) (g p))
 
--- a letter moved the states in view, and nothing else
-abbrev pub Advanced : (k : Clock) → (r : Sequence) → Letter → (ℕ → Bool) → View → List Places → List Places → Type 0
-Advanced k r l enter v before after = MovedBy k r l enter v before after × Kept (states k r) v before after
-
 -- entered alike
-pub enter_same : (k : Clock) (r : Sequence) (l : Letter) (e f : ℕ → Bool) (v : View) (S S' : List Places) → ((x : ℕ) → e x ≡ f x) → MovedBy k r l e v S S' → MovedBy k r l f v S S'
-enter_same k r l e f v S S' h m q x = m q x ∙ moved_same k r l (e x) (f x) _ _ q (h x) (λ p. refl)
+pub enter_same : (k : Clock) (r : Sequence) (l : Letter) (e f : ℕ → Bool) (v : View) (S S' : List Places) → ((x : ℕ) → e x ≡ f x) → Advanced k r l e v S S'
+    → Advanced k r l f v S S'
+enter_same k r l e f v S S' h (moves, kept) = (λ q x. moves q x ∙ moved_same k r l (e x) (f x) _ _ q (h x) (λ p. refl), kept)
 
 -- no states, no moves
 pub none_advanced : (k : Clock) (r : Sequence) (l : Letter) (e : ℕ → Bool) (v : View) (S : List Places) → states k r ≡ 0 → Advanced k r l e v S S
@@ -54,38 +51,46 @@ module _ (k : Clock) (r s : Sequence) (v : View) (apart : 1 ≤ v.stride) where
       (kept (place v (number k r q))
       (λ p h e. let same = place_apart v apart (number k r q) (states k r + p) (e ∙ behind_place v (states k r) p) in let below = number_below k r q in omega arith))
 
-  pub kept_sum : (S0 S1 S2 : List Places) → Kept (states k r) v S0 S1 → Kept (states k s) (behind v (states k r)) S1 S2 → Kept (states k r + states k s) v S0 S2
+  kept_sum : (S0 S1 S2 : List Places) → Kept (states k r) v S0 S1 → Kept (states k s) (behind v (states k r)) S1 S2 → Kept (states k r + states k s) v S0 S2
   kept_sum S0 S1 S2 one two j h =
       two j (λ p g e. h (states k r + p) (omega arith) (e ∙ behind_place v (states k r) p)) ∙ one j (λ p g e. h p (omega arith) e)
 
-  module _ (l : Letter) (enter second : ℕ → Bool) (S0 S1 S2 : List Places) (moved_r : MovedBy k r l enter v S0 S1) (kept_r : Kept (states k r) v S0 S1)
-      (moved_s : MovedBy k s l second (behind v (states k r)) S1 S2) (kept_s : Kept (states k s) (behind v (states k r)) S1 S2) where
+  module _ (l : Letter) (enter second : ℕ → Bool) (S0 S1 S2 : List Places) (one : Advanced k r l enter v S0 S1) (two : Advanced k s l second (behind v (states k r)) S1 S2) where
     first_moved : (q : State k r) (x : ℕ) → starts_in S2 v k (concat r s) x (inl q) ≡ moved k r l (enter x) (λ p. starts_in S0 v k (concat r s) x (inl p)) q
-    first_moved q x = first_kept S1 S2 kept_s x q ∙ moved_r q x
+    first_moved q x = first_kept S1 S2 two.1 x q ∙ one.0 q x
 
     second_moved : (q : State k s) (x : ℕ) → starts_in S2 v k (concat r s) x (inr q) ≡ moved k s l (second x) (λ p. starts_in S0 v k (concat r s) x (inr p)) q
     second_moved q x =
-        sym (behind_starts k r s v S2 x q) ∙ moved_s q x
-        ∙ moved_same k s l (second x) (second x) _ _ q refl (λ p. behind_starts k r s v S1 x p ∙ second_kept S0 S1 kept_r x p)
+        sym (behind_starts k r s v S2 x q) ∙ two.0 q x
+        ∙ moved_same k s l (second x) (second x) _ _ q refl (λ p. behind_starts k r s v S1 x p ∙ second_kept S0 S1 one.1 x p)
 
-    pub concat_moves : ((x : ℕ) → second x ≡ ((enter x && null r) || ended k r (starts_in S0 v k r x))) → MovedBy k (concat r s) l enter v S0 S2
+    concat_moves : ((x : ℕ) → second x ≡ ((enter x && null r) || ended k r (starts_in S0 v k r x))) → MovedBy k (concat r s) l enter v S0 S2
     concat_moves e (inl q) x = first_moved q x ∙ sym (sum_left k r s l (enter x) (starts_in S0 v k (concat r s) x) q)
     concat_moves e (inr q) x =
         second_moved q x ∙ moved_same k s l (second x) _ _ _ q (e x) (λ p. refl) ∙ sym (concat_right k r s l (enter x) (starts_in S0 v k (concat r s) x) q)
 
-    pub fusion_moves : ((x : ℕ) → second x ≡ ended k r (starts_in S1 v k r x)) → MovedBy k (fusion r s) l enter v S0 S2
+    fusion_moves : ((x : ℕ) → second x ≡ ended k r (starts_in S1 v k r x)) → MovedBy k (fusion r s) l enter v S0 S2
     fusion_moves e (inl q) x = first_moved q x ∙ sym (sum_left k r s l (enter x) (starts_in S0 v k (concat r s) x) q)
     fusion_moves e (inr q) x =
-        second_moved q x ∙ moved_same k s l (second x) _ _ _ q (e x ∙ ended_same k r _ _ (λ p. moved_r p x)) (λ p. refl)
+        second_moved q x ∙ moved_same k s l (second x) _ _ _ q (e x ∙ ended_same k r _ _ (λ p. one.0 p x)) (λ p. refl)
         ∙ sym (fusion_right k r s l (enter x) (starts_in S0 v k (concat r s) x) q)
 
-    pub either_moves : ((x : ℕ) → second x ≡ enter x) → MovedBy k (either r s) l enter v S0 S2
+    either_moves : ((x : ℕ) → second x ≡ enter x) → MovedBy k (either r s) l enter v S0 S2
     either_moves e (inl q) x = first_moved q x ∙ sym (sum_left k r s l (enter x) (starts_in S0 v k (concat r s) x) q)
     either_moves e (inr q) x =
         second_moved q x ∙ moved_same k s l (second x) _ _ _ q (e x) (λ p. refl) ∙ sym (either_right k r s l (enter x) (starts_in S0 v k (concat r s) x) q)
 
+    pub concat_advanced : ((x : ℕ) → second x ≡ ((enter x && null r) || ended k r (starts_in S0 v k r x))) → Advanced k (concat r s) l enter v S0 S2
+    concat_advanced e = (concat_moves e, kept_sum S0 S1 S2 one.1 two.1)
+
+    pub fusion_advanced : ((x : ℕ) → second x ≡ ended k r (starts_in S1 v k r x)) → Advanced k (fusion r s) l enter v S0 S2
+    fusion_advanced e = (fusion_moves e, kept_sum S0 S1 S2 one.1 two.1)
+
+    pub either_advanced : ((x : ℕ) → second x ≡ enter x) → Advanced k (either r s) l enter v S0 S2
+    either_advanced e = (either_moves e, kept_sum S0 S1 S2 one.1 two.1)
+
 -- r[*]
-pub star_moves : (k : Clock) (r : Sequence) (l : Letter) (enter again : ℕ → Bool) (v : View) (S0 S1 : List Places)
-    → ((x : ℕ) → again x ≡ (enter x || ended k r (starts_in S0 v k r x))) → MovedBy k r l again v S0 S1 → MovedBy k (star r) l enter v S0 S1
-star_moves k r l enter again v S0 S1 e h q x =
-    h q x ∙ moved_same k r l (again x) _ _ _ q (e x) (λ p. refl) ∙ sym (star_again k r l (enter x) (starts_in S0 v k r x) q)
+pub star_advanced : (k : Clock) (r : Sequence) (l : Letter) (enter again : ℕ → Bool) (v : View) (S0 S1 : List Places)
+    → ((x : ℕ) → again x ≡ (enter x || ended k r (starts_in S0 v k r x))) → Advanced k r l again v S0 S1 → Advanced k (star r) l enter v S0 S1
+star_advanced k r l enter again v S0 S1 e (moves, kept) =
+    (λ q x. moves q x ∙ moved_same k r l (again x) _ _ _ q (e x) (λ p. refl) ∙ sym (star_again k r l (enter x) (starts_in S0 v k r x) q), kept)

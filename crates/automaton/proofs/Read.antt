@@ -1,16 +1,18 @@
 -- Nodes read one after another.
-use Rattle.std.proofs.Common.{◌≡◌, ℕ, ◌+◌, ◌<◌, ◌≤◌, true, ◌&&◌, ltb, List, [], ◌∷◌, ◌++◌, map, length, get_or, take, set, sym, ap, ◌∙◌, subst, ap₂, arith, below_more}
+use Rattle.std.proofs.Common.{◌≡◌, ℕ, ◌<◌, ◌≤◌, true, ◌&&◌, ltb, List, [], ◌∷◌, ◌++◌, length, get_or, take, sym, refl, ap, ◌∙◌, subst, ap₂, arith, below_more, length-append}
 use mathlib.Core.List.{map-append}
 use lib.ListN.{length-map}
-use Rattle.std.proofs.lemmas.List.{get_or-take, get_or-map, get_or_push, get_or_append_left, length-take-le, take_more_set, get_or-set_same, get_or-set_other}
+use Rattle.std.proofs.lemmas.List.{get_or-take, get_or-map, get_or_push, get_or_append_left, length-take-le}
 use Rattle.std.proofs.lemmas.Bool.{and_parts, ltb-true}
 use Rattle.psl.specs.Syntax.{atom, Sequence, concat, fusion, either, both, empty, star, sequence_at}
 use Rattle.psl.specs.Table.{grow}
 use Rattle.psl.specs.declared.entry.Sequence as entry
 use Rattle.psl.specs.declared.entry.Sequence.TheVariants as s
 use Rattle.psl.proofs.Grow.{grow_push, grow_at, length_grow}
+use Rattle.table.specs.declared.table.Table.{Table}
+use Rattle.table.specs.Rows.{rows_of}
 use Rattle.automaton.specs.declared.node.Node.{Node}
-use Rattle.automaton.specs.Nodes.{blank, entries, lower, Facts, FactsBelow, Shape}
+use Rattle.automaton.specs.Nodes.{blank, entries, lower, AllLower, Facts, FactsBelow, Shape}
 use Rattle.automaton.specs.Trees.{named_sequence_of, named_sequences, tree}
 
 -- the trees before entry i are those of lower numbers
@@ -38,46 +40,58 @@ shape_of es i s.Empty is low = is
 shape_of es i (s.Star a) is low = let h = ltb-true a i low in (h, is ∙ ap star (below es i a h))
 shape_of es i (s.At a b) is low = let h = ltb-true a i low in (h, is ∙ ap (λ r. sequence_at r (atom b)) (below es i a h))
 
-module _ (nodes : List Node) (n : ℕ) (long : n ≤ length nodes) where
-  pub length_entries : length (entries nodes n) ≡ n
-  length_entries = length-map (take n nodes) (λ x. x.entry) ∙ length-take-le n nodes long
+module _ (nodes : List Node) where
+  pub length_entries : length (entries nodes) ≡ length nodes
+  length_entries = length-map nodes (λ x. x.entry)
 
-  entry_at : (i : ℕ) → i < n → get_or (entries nodes n) i (s.Condition 0) ≡ (get_or nodes i blank).entry
-  entry_at i h =
-      get_or-map (λ x. x.entry) (take n nodes) i blank (s.Condition 0) (omega (arith, length-take-le n nodes long))
-      ∙ ap (λ x. x.entry) (get_or-take n nodes i blank h)
+  entry_at : (i : ℕ) → i < length nodes → get_or (entries nodes) i (s.Condition 0) ≡ (get_or nodes i blank).entry
+  entry_at i h = get_or-map (λ x. x.entry) nodes i blank (s.Condition 0) h
 
   -- a node's entry denotes what its number does
-  pub shape_at : ((i : ℕ) → i < n → lower i (get_or nodes i blank).entry ≡ true) → (i : ℕ) → i < n → Shape (entries nodes n) i (get_or nodes i blank).entry
+  pub shape_at : AllLower (entries nodes) → (i : ℕ) → i < length nodes → Shape (entries nodes) i (get_or nodes i blank).entry
   unfolding named_sequences
   shape_at low i h =
-      shape_of (entries nodes n) i (get_or nodes i blank).entry
-      (grow_at named_sequence_of (s.Condition 0) empty (entries nodes n) i (omega (arith, length_entries))
-      ∙ ap (named_sequence_of (take i (grow named_sequence_of [] (entries nodes n)))) (entry_at i h))
-      (low i h)
+      let there : i < length (entries nodes) = omega (arith, length_entries) in
+      shape_of (entries nodes) i (get_or nodes i blank).entry
+      (grow_at named_sequence_of (s.Condition 0) empty (entries nodes) i there
+      ∙ ap (named_sequence_of (take i (grow named_sequence_of [] (entries nodes)))) (entry_at i h))
+      (ap (lower i) (sym (entry_at i h)) ∙ low i there)
+
+-- there are at most 256
+pub few_entries : (t : Table Node 256) → length (entries (rows_of t)) ≤ 256
+few_entries t = omega (arith, length_entries (rows_of t), length-take-le t.count t.rows (omega arith))
 
 -- one node more
-module _ (nodes : List Node) (n : ℕ) (room : n < length nodes) (x : Node) where
-  pub entries_more : entries (set nodes n x) (n + 1) ≡ entries nodes n ++ (x.entry ∷ [])
-  entries_more = ap (map (λ x. x.entry)) (take_more_set nodes n x room) ∙ map-append (λ x. x.entry) (take n nodes) (x ∷ [])
+module _ (nodes : List Node) (x : Node) where
+  pub entries_more : entries (nodes ++ (x ∷ [])) ≡ entries nodes ++ (x.entry ∷ [])
+  entries_more = map-append (λ x. x.entry) nodes (x ∷ [])
 
-  trees_more : named_sequences (entries (set nodes n x) (n + 1)) ≡ named_sequences (entries nodes n) ++ (named_sequence_of (named_sequences (entries nodes n)) x.entry ∷ [])
+  pub lower_more : AllLower (entries nodes) → lower (length nodes) x.entry ≡ true → AllLower (entries (nodes ++ (x ∷ [])))
+  lower_more old new =
+      subst AllLower (sym entries_more)
+      (λ i h. below_more (λ (i : ℕ). lower i (get_or (entries nodes ++ (x.entry ∷ [])) i (s.Condition 0)) ≡ true) (length nodes)
+      (λ i g. ap (lower i) (get_or_append_left (entries nodes) (x.entry ∷ []) (s.Condition 0) i (omega (arith, length_entries nodes))) ∙ old i (omega (arith, length_entries nodes)))
+      (ap (lower (length nodes)) (get_or_push (entries nodes) x.entry (s.Condition 0) (length nodes) (length_entries nodes)) ∙ new)
+      i (omega (arith, length-append (entries nodes) (x.entry ∷ []), length_entries nodes)))
+
+  trees_more : named_sequences (entries (nodes ++ (x ∷ []))) ≡ named_sequences (entries nodes) ++ (named_sequence_of (named_sequences (entries nodes)) x.entry ∷ [])
   unfolding named_sequences
-  trees_more = ap (grow named_sequence_of []) entries_more ∙ grow_push named_sequence_of [] (entries nodes n) x.entry
+  trees_more = ap (grow named_sequence_of []) entries_more ∙ grow_push named_sequence_of [] (entries nodes) x.entry
 
-  long_trees : length (named_sequences (entries nodes n)) ≡ n
+  long_trees : length (named_sequences (entries nodes)) ≡ length nodes
   unfolding named_sequences
-  long_trees = length_grow named_sequence_of [] (entries nodes n) ∙ omega (arith, length_entries nodes n (omega arith))
+  long_trees = length_grow named_sequence_of [] (entries nodes) ∙ omega (arith, length_entries nodes)
 
-  pub facts_more : FactsBelow (named_sequences (entries nodes n)) nodes n → Facts (named_sequence_of (named_sequences (entries nodes n)) x.entry) x
-      → FactsBelow (named_sequences (entries (set nodes n x) (n + 1))) (set nodes n x) (n + 1)
+  pub facts_more : FactsBelow (named_sequences (entries nodes)) nodes → Facts (named_sequence_of (named_sequences (entries nodes)) x.entry) x
+      → FactsBelow (named_sequences (entries (nodes ++ (x ∷ [])))) (nodes ++ (x ∷ []))
   facts_more old new =
-      subst (λ ts. FactsBelow ts (set nodes n x) (n + 1)) (sym trees_more)
-      (below_more (λ (j : ℕ). Facts (get_or (named_sequences (entries nodes n) ++ (t ∷ [])) j empty) (get_or (set nodes n x) j blank)) n
-      (λ j h. subst (λ r. Facts r (get_or (set nodes n x) j blank)) (sym (get_or_append_left (named_sequences (entries nodes n)) (t ∷ []) empty j (omega (arith, long_trees))))
-      (subst (Facts (get_or (named_sequences (entries nodes n)) j empty)) (sym (get_or-set_other nodes n j x blank (λ e. omega arith))) (old j h)))
-      (subst (λ r. Facts r (get_or (set nodes n x) n blank)) (sym (get_or_push (named_sequences (entries nodes n)) t empty n long_trees))
-      (subst (Facts t) (sym (get_or-set_same nodes n x blank room)) new)))
+      subst (λ ts. FactsBelow ts (nodes ++ (x ∷ []))) (sym trees_more)
+      (λ j h. below_more (λ (j : ℕ). Facts (get_or (named_sequences (entries nodes) ++ (t ∷ [])) j empty) (get_or (nodes ++ (x ∷ [])) j blank)) (length nodes)
+      (λ j g. subst (λ r. Facts r (get_or (nodes ++ (x ∷ [])) j blank)) (sym (get_or_append_left (named_sequences (entries nodes)) (t ∷ []) empty j (omega (arith, long_trees))))
+      (subst (Facts (get_or (named_sequences (entries nodes)) j empty)) (sym (get_or_append_left nodes (x ∷ []) blank j g)) (old j g)))
+      (subst (λ r. Facts r (get_or (nodes ++ (x ∷ [])) (length nodes) blank)) (sym (get_or_push (named_sequences (entries nodes)) t empty (length nodes) long_trees))
+      (subst (Facts t) (sym (get_or_push nodes x blank (length nodes) refl)) new))
+      j (omega (arith, length-append nodes (x ∷ []))))
     where
       t : Sequence
-      t = named_sequence_of (named_sequences (entries nodes n)) x.entry
+      t = named_sequence_of (named_sequences (entries nodes)) x.entry

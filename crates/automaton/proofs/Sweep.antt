@@ -12,7 +12,7 @@ use Rattle.psl.specs.OptionalClock.{Clock}
 use Rattle.psl.proofs.Number.{number_below, pair_below}
 use Rattle.automaton.specs.declared.view.View.{View}
 use Rattle.automaton.specs.Moves.{moved}
-use Rattle.automaton.specs.Views.{place, column, row, bare, starts_in, MovedBy, Kept}
+use Rattle.automaton.specs.Views.{place, column, row, bare, starts_in, MovedBy, Kept, Advanced}
 use Rattle.automaton.proofs.PartMoves.{moved_same}
 use Rattle.automaton.proofs.Moves.{both_parts}
 use Rattle.automaton.proofs.Views.{place_apart, column_place, row_place}
@@ -28,12 +28,9 @@ pub record Swept (k : Clock) (r : Sequence) (l : Letter) (V : ℕ → View) (m :
   pub rest : (x : ℕ) → ((j p : ℕ) → j < m → p < states k r → x ≡ place (V j) p → ⊥) → get_or after x bare ≡ get_or before x bare
 
 module _ (k : Clock) (r : Sequence) (l : Letter) (V : ℕ → View) (m : ℕ) (enter : ℕ → ℕ → Bool) (before : List Places) where
-  pub swept_none : Swept k r l V m enter before before 0
-  swept_none = record { done = λ j h. absurd (omega arith); todo = λ j h g q. refl; rest = λ x h. refl }
-
   pub swept_more : Disjoint (states k r) V m → (S S' : List Places) (i : ℕ) → i < m → Swept k r l V m enter before S i
-      → MovedBy k r l (enter i) (V i) S S' → Kept (states k r) (V i) S S' → Swept k r l V m enter before S' (i + 1)
-  swept_more apart S S' i h old step kept = record {
+      → Advanced k r l (enter i) (V i) S S' → Swept k r l V m enter before S' (i + 1)
+  swept_more apart S S' i h old (step, kept) = record {
     done = λ j g q x. elim (cases_eq j i) [
       | inl e ↦ subst (λ (o : ℕ). starts_in S' (V o) k r x q ≡ moved k r l (enter o x) (starts_in before (V o) k r x) q) (sym e)
           (step q x ∙ moved_same k r l (enter i x) (enter i x) _ _ q refl (λ p. ap (λ s. member s x) (old.todo i (omega arith) h p)))
@@ -71,7 +68,7 @@ module _ (k : Clock) (r s : Sequence) (l : Letter) (v : View) (enter : ℕ → B
   row_starts : (S : List Places) (x : ℕ) (q : State k r) (p : State k s) → starts_in S (row v (number k r q) (states k s)) k s x p ≡ starts_in S v k (both r s) x (q, p)
   row_starts S x q p = ap (λ j. member (get_or S j bare) x) (row_place v (number k r q) (states k s) (number k s p))
 
-  pub both_moves : ((q : State k r) (x : ℕ) → inits (number k r q) x ≡ (enter x && init k r l q)) → ((j x : ℕ) → none j x ≡ false) → MovedBy k (both r s) l enter v S0 S2
+  both_moves : ((q : State k r) (x : ℕ) → inits (number k r q) x ≡ (enter x && init k r l q)) → ((j x : ℕ) → none j x ≡ false) → MovedBy k (both r s) l enter v S0 S2
   both_moves e f (q, q') x =
       sym (row_starts S2 x q q')
       ∙ rows.done (number k r q) (number_below k r q) q' x
@@ -80,7 +77,10 @@ module _ (k : Clock) (r s : Sequence) (l : Letter) (v : View) (enter : ℕ → B
       ∙ moved_same k r l _ _ _ _ q (f (number k s p) x) (λ o. column_starts S0 x o p))
       ∙ sym (both_parts k r s l (starts_in S0 v k (both r s) x) q q' (enter x))
 
-  pub both_kept : Kept (states k r * states k s) v S0 S2
+  both_kept : Kept (states k r * states k s) v S0 S2
   both_kept j h =
       rows.rest j (λ q p a b e. h (q * states k s + p) (pair_below (states k r) (states k s) q p a b) (e ∙ row_place v q (states k s) p))
       ∙ columns.rest j (λ p q a b e. h (q * states k s + p) (pair_below (states k r) (states k s) q p b a) (e ∙ column_place v p (states k s) q))
+
+  pub both_advanced : ((q : State k r) (x : ℕ) → inits (number k r q) x ≡ (enter x && init k r l q)) → ((j x : ℕ) → none j x ≡ false) → Advanced k (both r s) l enter v S0 S2
+  both_advanced e f = (both_moves e f, both_kept)

@@ -5,10 +5,6 @@ use Rattle.automaton.specs.declared.view.View.{View}
 use Rattle.automaton.specs.Views.{place, Fits, behind, column, row}
 use Rattle.psl.proofs.Number.{pair_below}
 
--- a product grows with its factors
-grows : (a b c d : ℕ) → a ≤ b → c ≤ d → a * c ≤ b * d
-grows a b c d h g = mul-le-mul h g
-
 -- states of different numbers stand at different places
 pub place_apart : (v : View) → 1 ≤ v.stride → (p q : ℕ) → place v p ≡ place v q → p ≡ q
 place_apart v h p q e = let f : v.stride * p ≡ v.stride * q = omega arith in eq_of_mul-eq-mul_left v.stride h p q f
@@ -28,14 +24,6 @@ row_place v q m p = behind_place v (q * m) p
 module _ (v : View) (n m : ℕ) (fits : Fits v (n + m)) where
   abbrev total : v.stride * (n + m) ≡ v.stride * n + v.stride * m
   total = mul-add v.stride n m
-
-  pub fits_first : Fits v n
-  fits_first = record {
-    apart = fits.apart;
-    low = fits.low;
-    spread = let t = total in let s = fits.spread in omega arith;
-    room = λ p h. fits.room p (omega arith);
-  }
 
   -- the states of the first part end below 480
   pub behind_low : place v n ≤ 480
@@ -62,31 +50,20 @@ module _ (v : View) (n m : ℕ) (fits : Fits v (n + m)) where
 module _ (v : View) (n m : ℕ) (fits : Fits v (n * m)) where
   pub fits_column : (p : ℕ) → p < m → 1 ≤ n → Fits (column v p m) n
   fits_column p h g = record {
-    apart = let e : 1 * 1 ≤ v.stride * m = grows 1 v.stride 1 m fits.apart (omega arith) in omega arith;
+    apart = let some : 1 ≤ m = omega arith in let e : 1 * 1 ≤ v.stride * m = mul-le-mul fits.apart some in omega arith;
     low = let r = fits.room p (first g) in omega arith;
     spread = subst (λ (x : ℕ). x ≤ 240) (ap (λ (x : ℕ). v.stride * x) (mul_comm n m) ∙ sym (mul_assoc v.stride m n)) fits.spread;
     room = λ q k. subst (λ (x : ℕ). x < 240) (sym (column_place v p m q)) (fits.room (q * m + p) (pair_below n m q p k h));
   }
     where
       first : 1 ≤ n → p < n * m
-      first g = let e : 1 * m ≤ n * m = grows 1 n m m g (omega arith) in omega arith
+      first g = let same : m ≤ m = omega arith in let e : 1 * m ≤ n * m = mul-le-mul g same in omega arith
 
   pub fits_row : (q : ℕ) → q < n → 1 ≤ m → Fits (row v q m) m
   fits_row q h g = record {
     apart = fits.apart;
     low = let r = fits.room (q * m + 0) (pair_below n m q 0 h g) in let e : place v (q * m + 0) ≡ place v (q * m) = ap (place v) (omega arith) in omega arith;
-    spread = let e : v.stride * (1 * m) ≤ v.stride * (n * m) = grows v.stride v.stride (1 * m) (n * m) (omega arith) (grows 1 n m m (omega arith) (omega arith)) in
+    spread = let e : v.stride * (1 * m) ≤ v.stride * (n * m) = mul-le-mul (omega arith) (mul-le-mul (omega arith) (omega arith)) in
         let f : v.stride * (1 * m) ≡ v.stride * m = ap (λ (x : ℕ). v.stride * x) (omega arith) in let s = fits.spread in omega arith;
     room = λ p k. subst (λ (x : ℕ). x < 240) (sym (row_place v q m p)) (fits.room (q * m + p) (pair_below n m q p h k));
   }
-
-  pub column_spread : 1 ≤ n → v.stride * m ≤ 240
-  column_spread g =
-      let e : v.stride * (1 * m) ≤ v.stride * (n * m) = grows v.stride v.stride (1 * m) (n * m) (omega arith) (grows 1 n m m g (omega arith)) in
-      let f : v.stride * (1 * m) ≡ v.stride * m = ap (λ (x : ℕ). v.stride * x) (omega arith) in
-      let s = fits.spread in
-      omega arith
-
--- there are at most 240 states in view
-pub few_places : (v : View) (n : ℕ) → Fits v n → n ≤ 240
-few_places v n fits = let e : 1 * n ≤ v.stride * n = grows 1 v.stride n n fits.apart (omega arith) in let s = fits.spread in omega arith

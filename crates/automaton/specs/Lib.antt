@@ -3,5 +3,8 @@ pub mod Trees
 pub mod Clocks
 pub mod Nodes
 pub mod Automata
+pub mod Parts
 pub mod Views
 pub mod Reached
+pub mod Standing
+pub mod States

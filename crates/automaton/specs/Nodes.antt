@@ -1,5 +1,5 @@
 -- What is known of the sequences of a table.
-use Rattle.std.specs.Prelude.{◌≡◌, ℕ, ◌<◌, min, Bool, true, false, ◌&&◌, List, map, take, nat_lt, slice_index_or}
+use Rattle.std.specs.Prelude.{◌≡◌, ℕ, ◌<◌, min, Bool, true, false, ◌&&◌, List, map, length, nat_lt, slice_index_or}
 use Rattle.psl.specs.Syntax.{truth, atom, Sequence, condition, concat, fusion, either, both, empty, star, sequence_at}
 use Rattle.psl.specs.Automaton.{states, null, live_start}
 use Rattle.psl.specs.OptionalClock.{free, on}
@@ -21,9 +21,9 @@ Facts r n =
 abbrev pub blank : Node
 blank = record { entry = s.Condition 0; free = 0; clocked = 0; null = false; live = false }
 
--- the first n nodes tell of the sequences rs
-abbrev pub FactsBelow : List Sequence → List Node → ℕ → Type 0
-FactsBelow rs nodes n = (j : ℕ) → j < n → Facts (slice_index_or rs j empty) (slice_index_or nodes j blank)
+-- the nodes tell of the sequences rs
+abbrev pub FactsBelow : List Sequence → List Node → Type 0
+FactsBelow rs nodes = (j : ℕ) → j < length nodes → Facts (slice_index_or rs j empty) (slice_index_or nodes j blank)
 
 -- the sequences that an entry names have numbers below i
 abbrev pub lower : ℕ → entry.Sequence → Bool
@@ -36,9 +36,13 @@ lower i s.Empty = true
 lower i (s.Star a) = nat_lt a i
 lower i (s.At a b) = nat_lt a i
 
--- the entries of the first n nodes
-abbrev pub entries : List Node → ℕ → List entry.Sequence
-entries nodes n = map (λ x. x.entry) (take n nodes)
+-- each entry names only sequences with lower numbers
+abbrev pub AllLower : List entry.Sequence → Type 0
+AllLower es = (i : ℕ) → i < length es → lower i (slice_index_or es i (s.Condition 0)) ≡ true
+
+-- the entries of the nodes
+abbrev pub entries : List Node → List entry.Sequence
+entries nodes = map (λ x. x.entry) nodes
 
 -- what entry i denotes, over sequences with lower numbers
 abbrev pub Shape : List entry.Sequence → ℕ → entry.Sequence → Type 0

@@ -4,7 +4,7 @@ use Rattle.bits.specs.declared.places.Places.{Places}
 use Rattle.bits.specs.Member.{member}
 use Rattle.psl.specs.Syntax.{Sequence}
 use Rattle.psl.specs.Letter.{Letter}
-use Rattle.psl.specs.Automaton.{State, any, live}
+use Rattle.psl.specs.Automaton.{State, states, any, live}
 use Rattle.psl.specs.Numbered.{number}
 use Rattle.psl.specs.OptionalClock.{Clock}
 use Rattle.automaton.specs.declared.view.View.{View}
@@ -57,6 +57,10 @@ EndedIn k r v sets p = (x : ℕ) → member p x ≡ ended k r (starts_in sets v 
 -- only the sets of the n states in view changed
 abbrev pub Kept : ℕ → View → List Places → List Places → Type 0
 Kept n v before after = (j : ℕ) → ((p : ℕ) → p < n → j ≢ place v p) → slice_index_or after j bare ≡ slice_index_or before j bare
+
+-- the letter moved the starts in view, and nothing else changed
+abbrev pub Advanced : (k : Clock) → (r : Sequence) → Letter → (ℕ → Bool) → View → List Places → List Places → Type 0
+Advanced k r l enter v before after = MovedBy k r l enter v before after × Kept (states k r) v before after
 
 -- the set has the starts from whose states one or more tops complete a match
 abbrev pub Hopeful : (k : Clock) → (r : Sequence) → List Places → Places → Type 0

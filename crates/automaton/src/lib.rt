@@ -3,9 +3,11 @@
 
 mod advance;
 pub mod automata;
-pub mod clock;
 mod node;
+mod part;
+mod placed;
 pub mod reach;
+mod starts;
 mod state;
-pub mod table;
 mod view;
+pub mod word;

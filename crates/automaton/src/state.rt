@@ -1,245 +1,177 @@
 // The states of a sequence, by number: which are ends, where a letter leads from the start, and from which tops go on to an end.
-ghost use Rattle.std.specs.Prelude.{◌≡◌, ℕ, ◌*◌, ◌/◌, ◌%◌, ◌<◌, ◌≤◌, Bool, true, false, not, ◌&&◌, length};
-ghost use Rattle.psl.specs.Automaton.{states as states_of, single as SingleOf};
-ghost use Rattle.psl.specs.Numbered.{numbered_final, numbered_init, numbered_live, numbered_leaf_init, numbered_leaf_final, numbered_leaf_live};
-ghost use Rattle.psl.specs.OptionalClock.{ticks as ticks_of};
-ghost use Rattle.psl.specs.Letter.{satisfies as satisfies_of};
-ghost use Rattle.psl.specs.Syntax.{atom, negation};
-ghost use Rattle.automaton.specs.Automata.{entries_of};
-ghost use Rattle.automaton.specs.Clocks.{clock_of, letter_at};
-ghost use Rattle.automaton.specs.Nodes.{capped};
-ghost use Rattle.automaton.specs.Trees.{tree};
+ghost use Rattle.std.specs.Prelude.{◌<◌};
+ghost use Rattle.automaton.specs.Parts.{size};
 
-use crate::automata::Automata;
-use crate::clock::Clock;
-use crate::table::Truth;
-use psl::entry::Sequence;
+use crate::part::{Part, Shape};
+use crate::word::Letter;
 
-// Whether the letter at the place is where a tick ends.
-pub(crate) fn ticks(clock: Clock, truth: Truth, place: usize) -> bool
-    ensures value { result ≡ ticks_of (clock_of clock) (letter_at truth.entry.own.now truth.entry.other.now place) }
-{
-    match clock {
-        Clock::Free => true,
-        Clock::On(c) => truth.satisfies(place, c),
+// A state of a sequence, by its number.
+#[derive(Clone, Copy)]
+pub(crate) struct State<'a> {
+    pub(crate) part: Part<'a>,
+    pub(crate) number: usize,
+    ghost there: { number < size part },
+}
+
+// A state of a sequence that has the states of two: one of the first, or one of the second (no Result, since neither is a failure).
+enum Half<'a> {
+    First(State<'a>),
+    Second(State<'a>),
+}
+
+impl<'a> Part<'a> {
+    ghost use Rattle.std.specs.Prelude.{◌≡◌};
+    ghost use Rattle.psl.specs.Automaton.{single as single_of};
+    ghost use Rattle.automaton.specs.Clocks.{letter_in};
+    ghost use Rattle.automaton.specs.Parts.{clock_in, sequence_of};
+    ghost use Rattle.automaton.specs.States.{IsState};
+
+    // The state with that number.
+    pub(crate) fn state(self, number: usize) -> State<'a>
+        requires { number < size self }
+        ensures { IsState result self.entry number }
+    {
+        State { part: self, number }
+    }
+
+    // Whether the sequence matches the letter alone.
+    #[tactic(auto, using(crate::proofs::Moves::single_none))]
+    pub(crate) fn single(self, letter: Letter) -> bool
+        ensures value { result ≡ single_of (clock_in self.entry) (sequence_of self.entry) (letter_in letter.entry) }
+    {
+        match self.shape() {
+            Shape::Stateless => false,
+            Shape::Free(b) => letter.satisfies(b),
+            Shape::Clocked(c, b) => letter.satisfies(c) & letter.satisfies(b),
+            Shape::Concat(r, s) => {
+                (r.node().null & s.single(letter)) | (r.single(letter) & s.node().null)
+            }
+            Shape::Fusion(r, s) | Shape::Both(r, s) => r.single(letter) & s.single(letter),
+            Shape::Either(r, s) => r.single(letter) | s.single(letter),
+            Shape::Star(r) | Shape::At(r, _) => r.single(letter),
+        }
     }
 }
 
-// From the start of a condition, whether the letter may lead to its state `q`.
-fn leaf_starts(clock: Clock, b: u16, truth: Truth, place: usize, q: usize) -> bool
-    ensures value { result ≡ numbered_leaf_init (clock_of clock) (atom b) (letter_at truth.entry.own.now truth.entry.other.now place) q }
-{
-    match clock {
-        Clock::Free => truth.satisfies(place, b),
-        Clock::On(c) => {
-            if q == 0 {
-                !truth.mirror_satisfies(place, c)
-            } else {
-                truth.satisfies(place, c) & truth.satisfies(place, b)
-            }
-        }
-    }
-}
+impl<'a> State<'a> {
+    ghost use Rattle.std.specs.Prelude.{◌≡◌, ◌+◌, ◌/◌, ◌%◌};
+    ghost use Rattle.psl.specs.Numbered.{numbered_final, numbered_init, numbered_live};
+    ghost use Rattle.automaton.specs.Clocks.{letter_in};
+    ghost use Rattle.automaton.specs.Parts.{clock_in, sequence_of, ShapeOf};
+    ghost use Rattle.automaton.specs.declared.part.Shape.TheVariants.{Both};
+    ghost use Rattle.automaton.specs.States.{IsState, HalfOf};
 
-impl Automata {
-    // How many states sequence `i` has.
-    pub(crate) fn states(&self, i: usize, clock: Clock) -> usize
-        requires there { i < length (entries_of self.now) }
-        requires few { states_of (clock_of clock) (tree (entries_of self.now) i) ≤ 240 }
-        ensures value { result ≡ states_of (clock_of clock) (tree (entries_of self.now) i) }
+    // As a state of r or of s, where its sequence has the states of both.
+    fn half(self, r: Part<'a>, s: Part<'a>) -> Half<'a>
+        requires { size self.part ≡ size r + size s }
+        ensures { HalfOf self.entry r.entry s.entry result }
     {
-        let node = self.node(i);
-        match clock {
-            Clock::Free => node.free,
-            Clock::On(_) => node.clocked,
+        let n = r.states();
+        if self.number < n {
+            Half::First(r.state(self.number))
+        } else {
+            Half::Second(s.state(self.number - n))
         }
     }
 
-    // The two states that make up state `p` of a && b.
-    fn pair(&self, a: usize, b: usize, clock: Clock, p: usize) -> (usize, usize)
-        requires first { a < length (entries_of self.now) }
-        requires second { b < length (entries_of self.now) }
-        requires few { states_of (clock_of clock) (tree (entries_of self.now) a) * states_of (clock_of clock) (tree (entries_of self.now) b) ≤ 240 }
-        requires state { p < states_of (clock_of clock) (tree (entries_of self.now) a) * states_of (clock_of clock) (tree (entries_of self.now) b) }
-        ensures first { result.0 ≡ p / states_of (clock_of clock) (tree (entries_of self.now) b) }
-        ensures second { result.1 ≡ p % states_of (clock_of clock) (tree (entries_of self.now) b) }
-        ensures below_first { result.0 < states_of (clock_of clock) (tree (entries_of self.now) a) }
-        ensures below_second { result.1 < states_of (clock_of clock) (tree (entries_of self.now) b) }
-        ensures few_first { states_of (clock_of clock) (tree (entries_of self.now) a) ≤ 240 }
-        ensures few_second { states_of (clock_of clock) (tree (entries_of self.now) b) ≤ 240 }
+    // The states of r and of s that make it up, where its sequence is r && s.
+    fn pair(self, r: Part<'a>, s: Part<'a>) -> (State<'a>, State<'a>)
+        requires { ShapeOf self.part (Both r s) }
+        ensures first { IsState result.0 r.entry (self.entry.number / size s.entry) }
+        ensures second { IsState result.1 s.entry (self.entry.number % size s.entry) }
     {
-        let m = self.states(b, clock);
-        (p / m, p % m)
+        let m = s.states();
+        (r.state(self.number / m), s.state(self.number % m))
     }
 
-    // Whether a match of sequence `i` may end in its state `p`.
-    pub(crate) fn is_final(&self, i: usize, clock: Clock, p: usize) -> bool
-        requires there { i < length (entries_of self.now) }
-        requires few { states_of (clock_of clock) (tree (entries_of self.now) i) ≤ 240 }
-        requires state { p < states_of (clock_of clock) (tree (entries_of self.now) i) }
-        ensures value { result ≡ numbered_final (clock_of clock) (tree (entries_of self.now) i) p }
+    // Whether a match may end in it.
+    pub(crate) fn is_final(self) -> bool
+        ensures value { result ≡ numbered_final (clock_in self.entry.part) (sequence_of self.entry.part) self.entry.number }
     {
-        match self.node(i).entry {
-            Sequence::Condition(_) => match clock {
-                Clock::Free => true,
-                Clock::On(_) => p == 1,
+        match self.part.shape() {
+            Shape::Stateless => false,
+            Shape::Free(_) => true,
+            Shape::Clocked(_, _) => self.number == 1,
+            Shape::Concat(r, s) => match self.half(r, s) {
+                Half::First(p) => p.is_final() && s.node().null,
+                Half::Second(q) => q.is_final(),
             },
-            Sequence::Concat(a, b) => {
-                let n = self.states(a as usize, clock);
-                if p < n {
-                    self.is_final(a as usize, clock, p) && self.node(b as usize).null
-                } else {
-                    self.is_final(b as usize, clock, p - n)
-                }
-            }
-            Sequence::Fusion(a, b) => {
-                let n = self.states(a as usize, clock);
-                p >= n && self.is_final(b as usize, clock, p - n)
-            }
-            Sequence::Either(a, b) => {
-                let n = self.states(a as usize, clock);
-                if p < n {
-                    self.is_final(a as usize, clock, p)
-                } else {
-                    self.is_final(b as usize, clock, p - n)
-                }
-            }
-            Sequence::Both(a, b) => {
-                let (x, y) = self.pair(a as usize, b as usize, clock, p);
-                self.is_final(a as usize, clock, x) && self.is_final(b as usize, clock, y)
-            }
-            Sequence::Empty => false,
-            Sequence::Star(a) => self.is_final(a as usize, clock, p),
-            Sequence::At(a, d) => self.is_final(a as usize, Clock::On(d), p),
-        }
-    }
-
-    // Whether some tops, one or more, complete a match of sequence `i` from its state `p`.
-    pub(crate) fn is_live(&self, i: usize, clock: Clock, p: usize) -> bool
-        requires there { i < length (entries_of self.now) }
-        requires few { states_of (clock_of clock) (tree (entries_of self.now) i) ≤ 240 }
-        requires state { p < states_of (clock_of clock) (tree (entries_of self.now) i) }
-        ensures value { result ≡ numbered_live (clock_of clock) (tree (entries_of self.now) i) p }
-    {
-        match self.node(i).entry {
-            Sequence::Condition(_) => match clock {
-                Clock::Free => false,
-                Clock::On(_) => p == 0,
+            Shape::Fusion(r, s) => match self.half(r, s) {
+                Half::First(_) => false,
+                Half::Second(q) => q.is_final(),
             },
-            Sequence::Concat(a, b) => {
-                let n = self.states(a as usize, clock);
-                if p < n {
-                    let second = self.node(b as usize);
-                    (self.is_final(a as usize, clock, p) & second.live)
-                        | (self.is_live(a as usize, clock, p) & (second.null | second.live))
-                } else {
-                    self.is_live(b as usize, clock, p - n)
-                }
+            Shape::Either(r, s) => match self.half(r, s) {
+                Half::First(p) => p.is_final(),
+                Half::Second(q) => q.is_final(),
+            },
+            Shape::Both(r, s) => {
+                let (p, q) = self.pair(r, s);
+                p.is_final() && q.is_final()
             }
-            Sequence::Fusion(a, b) => {
-                let n = self.states(a as usize, clock);
-                if p < n {
-                    self.is_live(a as usize, clock, p) & self.node(b as usize).live
-                } else {
-                    self.is_live(b as usize, clock, p - n)
-                }
-            }
-            Sequence::Either(a, b) => {
-                let n = self.states(a as usize, clock);
-                if p < n {
-                    self.is_live(a as usize, clock, p)
-                } else {
-                    self.is_live(b as usize, clock, p - n)
-                }
-            }
-            Sequence::Both(a, b) => {
-                let (x, y) = self.pair(a as usize, b as usize, clock, p);
-                self.is_live(a as usize, clock, x) & self.is_live(b as usize, clock, y)
-            }
-            Sequence::Empty => false,
-            Sequence::Star(a) => {
-                let again = self.node(a as usize).live;
-                (self.is_final(a as usize, clock, p) & again) | self.is_live(a as usize, clock, p)
-            }
-            Sequence::At(a, d) => self.is_live(a as usize, Clock::On(d), p),
+            Shape::Star(r) | Shape::At(r, _) => r.state(self.number).is_final(),
         }
     }
 
-    // Whether sequence `i` matches the letter at the place alone.
-    pub(crate) fn single(&self, i: usize, clock: Clock, truth: Truth, place: usize) -> bool
-        requires there { i < length (entries_of self.now) }
-        ensures value { result ≡ SingleOf (clock_of clock) (tree (entries_of self.now) i) (letter_at truth.entry.own.now truth.entry.other.now place) }
+    // Whether some tops, one or more, complete a match from it.
+    pub(crate) fn is_live(self) -> bool
+        ensures value { result ≡ numbered_live (clock_in self.entry.part) (sequence_of self.entry.part) self.entry.number }
     {
-        match self.node(i).entry {
-            Sequence::Condition(b) => ticks(clock, truth, place) & truth.satisfies(place, b),
-            Sequence::Concat(a, b) => {
-                let first = self.node(a as usize).null;
-                let second = self.node(b as usize).null;
-                (first & self.single(b as usize, clock, truth, place))
-                    | (self.single(a as usize, clock, truth, place) & second)
+        match self.part.shape() {
+            Shape::Stateless | Shape::Free(_) => false,
+            Shape::Clocked(_, _) => self.number == 0,
+            Shape::Concat(r, s) => match self.half(r, s) {
+                Half::First(p) => {
+                    let second = s.node();
+                    (p.is_final() & second.live) | (p.is_live() & (second.null | second.live))
+                }
+                Half::Second(q) => q.is_live(),
+            },
+            Shape::Fusion(r, s) => match self.half(r, s) {
+                Half::First(p) => p.is_live() & s.node().live,
+                Half::Second(q) => q.is_live(),
+            },
+            Shape::Either(r, s) => match self.half(r, s) {
+                Half::First(p) => p.is_live(),
+                Half::Second(q) => q.is_live(),
+            },
+            Shape::Both(r, s) => {
+                let (p, q) = self.pair(r, s);
+                p.is_live() & q.is_live()
             }
-            Sequence::Fusion(a, b) => self.single(a as usize, clock, truth, place)
-                & self.single(b as usize, clock, truth, place),
-            Sequence::Either(a, b) => self.single(a as usize, clock, truth, place)
-                | self.single(b as usize, clock, truth, place),
-            Sequence::Both(a, b) => self.single(a as usize, clock, truth, place)
-                & self.single(b as usize, clock, truth, place),
-            Sequence::Empty => false,
-            Sequence::Star(a) => self.single(a as usize, clock, truth, place),
-            Sequence::At(a, d) => self.single(a as usize, Clock::On(d), truth, place),
+            Shape::Star(r) => {
+                let p = r.state(self.number);
+                (p.is_final() & r.node().live) | p.is_live()
+            }
+            Shape::At(r, _) => r.state(self.number).is_live(),
         }
     }
 
-    // From the start of sequence `i`, whether the letter at the place may lead to its state `q`.
-    pub(crate) fn starts(
-        &self,
-        i: usize,
-        clock: Clock,
-        truth: Truth,
-        place: usize,
-        q: usize,
-    ) -> bool
-        requires there { i < length (entries_of self.now) }
-        requires few { states_of (clock_of clock) (tree (entries_of self.now) i) ≤ 240 }
-        requires state { q < states_of (clock_of clock) (tree (entries_of self.now) i) }
-        ensures value { result ≡ numbered_init (clock_of clock) (tree (entries_of self.now) i) (letter_at truth.entry.own.now truth.entry.other.now place) q }
+    // Whether the letter may lead to it from the start.
+    pub(crate) fn starts(self, letter: Letter) -> bool
+        ensures value { result ≡ numbered_init (clock_in self.entry.part) (sequence_of self.entry.part) (letter_in letter.entry) self.entry.number }
     {
-        match self.node(i).entry {
-            Sequence::Condition(b) => leaf_starts(clock, b, truth, place, q),
-            Sequence::Concat(a, b) => {
-                let n = self.states(a as usize, clock);
-                if q < n {
-                    self.starts(a as usize, clock, truth, place, q)
-                } else {
-                    self.node(a as usize).null
-                        && self.starts(b as usize, clock, truth, place, q - n)
-                }
+        match self.part.shape() {
+            Shape::Stateless => false,
+            Shape::Free(b) => letter.satisfies(b),
+            Shape::Clocked(c, _) if self.number == 0 => !letter.mirror_satisfies(c),
+            Shape::Clocked(c, b) => letter.satisfies(c) & letter.satisfies(b),
+            Shape::Concat(r, s) => match self.half(r, s) {
+                Half::First(p) => p.starts(letter),
+                Half::Second(q) => r.node().null && q.starts(letter),
+            },
+            Shape::Fusion(r, s) => match self.half(r, s) {
+                Half::First(p) => p.starts(letter),
+                Half::Second(q) => r.single(letter) && q.starts(letter),
+            },
+            Shape::Either(r, s) => match self.half(r, s) {
+                Half::First(p) => p.starts(letter),
+                Half::Second(q) => q.starts(letter),
+            },
+            Shape::Both(r, s) => {
+                let (p, q) = self.pair(r, s);
+                p.starts(letter) && q.starts(letter)
             }
-            Sequence::Fusion(a, b) => {
-                let n = self.states(a as usize, clock);
-                if q < n {
-                    self.starts(a as usize, clock, truth, place, q)
-                } else {
-                    self.single(a as usize, clock, truth, place)
-                        && self.starts(b as usize, clock, truth, place, q - n)
-                }
-            }
-            Sequence::Either(a, b) => {
-                let n = self.states(a as usize, clock);
-                if q < n {
-                    self.starts(a as usize, clock, truth, place, q)
-                } else {
-                    self.starts(b as usize, clock, truth, place, q - n)
-                }
-            }
-            Sequence::Both(a, b) => {
-                let (x, y) = self.pair(a as usize, b as usize, clock, q);
-                self.starts(a as usize, clock, truth, place, x)
-                    && self.starts(b as usize, clock, truth, place, y)
-            }
-            Sequence::Empty => false,
-            Sequence::Star(a) => self.starts(a as usize, clock, truth, place, q),
-            Sequence::At(a, d) => self.starts(a as usize, Clock::On(d), truth, place, q),
+            Shape::Star(r) | Shape::At(r, _) => r.state(self.number).starts(letter),
         }
     }
 }

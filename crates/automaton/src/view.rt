@@ -1,12 +1,12 @@
 // Where the states of a sequence stand among those of the sequence that it is a part of.
-ghost use Rattle.std.specs.Prelude.{◌≡◌, ℕ, ◌*◌, ◌<◌, ◌≤◌};
-ghost use Rattle.automaton.specs.Views.{Fits, place as place_of, behind as behind_of, column as column_of, whole as whole_view};
+ghost use Rattle.std.specs.Prelude.{◌≡◌, ℕ, ◌≤◌};
+ghost use Rattle.automaton.specs.Views.{Fits, place as place_of, behind as behind_of, whole as whole_view};
 
 // The state numbered n stands at base + stride * n.
 #[derive(Clone, Copy)]
 pub(crate) struct View {
-    base: usize,
-    stride: usize,
+    pub(crate) base: usize,
+    pub(crate) stride: usize,
 }
 
 impl View {
@@ -34,18 +34,6 @@ impl View {
         View {
             base: self.place(n),
             stride: self.stride,
-        }
-    }
-
-    // The view of the pairs whose second part is state `p` of `m`.
-    pub(crate) fn column(self, p: usize, m: usize) -> View
-        requires low { place_of self p ≤ 480 }
-        requires spread { self.stride * m ≤ 240 }
-        ensures value { result ≡ column_of self p m }
-    {
-        View {
-            base: self.place(p),
-            stride: self.stride * m,
         }
     }
 }

@@ -2,19 +2,16 @@
 ghost use Rattle.std.specs.Prelude.{◌≡◌};
 ghost use Rattle.verdict.specs.Refusals.{number_of};
 
-#[derive(Clone, Copy)]
+#[derive(Clone, Copy, Debug, PartialEq, Eq)]
 pub enum Refusal {
-    WorkArea,
-    NoSequence,
+    WorkArea = 24,
+    NoSequence = 25,
 }
 
 impl Refusal {
     pub fn number(self) -> u8
         ensures value { result ≡ number_of self }
     {
-        match self {
-            Refusal::WorkArea => 24,
-            Refusal::NoSequence => 25,
-        }
+        self as u8
     }
 }

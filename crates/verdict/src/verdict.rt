@@ -1,14 +1,14 @@
 // The four verdicts.
-ghost use Rattle.std.specs.Prelude.{Bool, ◌≡◌};
+ghost use Rattle.std.specs.Prelude.{◌≡◌};
 ghost use Rattle.verdict.specs.Verdicts.{digit_of, passing};
 
-// How a property stands after the letters so far.
-#[derive(Clone, Copy)]
+// How a property stands after the letters so far, from worst to best.
+#[derive(Clone, Copy, Debug, PartialEq, Eq, PartialOrd, Ord)]
 pub enum Verdict {
-    FailedForGood,
-    Pending,
-    Holds,
-    HeldForGood,
+    FailedForGood = 0,
+    Pending = 1,
+    Holds = 2,
+    HeldForGood = 3,
 }
 
 impl Verdict {
@@ -16,23 +16,13 @@ impl Verdict {
     pub fn digit(self) -> u8
         ensures value { result ≡ digit_of self }
     {
-        match self {
-            Verdict::FailedForGood => 0,
-            Verdict::Pending => 1,
-            Verdict::Holds => 2,
-            Verdict::HeldForGood => 3,
-        }
+        self as u8
     }
 
     // Whether the property passes if no letter follows.
     pub fn passes(self) -> bool
         ensures value { result ≡ passing self }
     {
-        match self {
-            Verdict::FailedForGood => false,
-            Verdict::Pending => false,
-            Verdict::Holds => true,
-            Verdict::HeldForGood => true,
-        }
+        self >= Verdict::Holds
     }
 }

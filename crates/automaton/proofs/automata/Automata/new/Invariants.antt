@@ -1,14 +1,6 @@
-use Rattle.std.proofs.Common.{◌≡◌, ℕ, ◌-◌, ◌<◌, ◌≤◌, true, length, get_or, take}
-use Rattle.automaton.specs.Nodes.{blank, entries, lower, FactsBelow}
-use Rattle.automaton.specs.Trees.{named_sequences}
+use Rattle.std.proofs.Common.{◌≡◌, take}
+use Rattle.automaton.specs.Automata.{entries_of}
 use Rattle.automaton.proofs.automata.Automata.new.Given as goal
 
-abbrev pub invariant-loop-count : goal.invariant-loop-count
-invariant-loop-count l =
-    (l.count ≤ 256) × (l.count ≤ length l.table) × (length l.nodes ≡ 256)
-    × ((i : ℕ) → i < l.count → lower i (get_or l.nodes i blank).entry ≡ true)
-    × FactsBelow (named_sequences (entries l.nodes l.count)) l.nodes l.count
-    × (entries l.nodes l.count ≡ take l.count l.table)
-
-abbrev pub decreases-loop-count : goal.decreases-loop-count
-decreases-loop-count l = length l.table - l.count
+abbrev pub invariant-loop-entry : goal.invariant-loop-entry
+invariant-loop-entry l = entries_of l.all ≡ take l.entry-index l.table

@@ -1,4 +1,0 @@
-use Rattle.automaton.proofs.automata.Automata.+is_final.Given as goal
-
-abbrev pub decreases-is_final : goal.decreases-is_final
-decreases-is_final l = l.i

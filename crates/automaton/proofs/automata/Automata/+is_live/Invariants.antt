@@ -1,4 +1,0 @@
-use Rattle.automaton.proofs.automata.Automata.+is_live.Given as goal
-
-abbrev pub decreases-is_live : goal.decreases-is_live
-decreases-is_live l = l.i

@@ -9,6 +9,7 @@ use psl::entry::Sequence;
 use table::table::Table;
 
 // A node for each sequence.
+// Stays: operands are numbers of nodes and no boxes, since a library has no heap.
 pub struct Automata {
     nodes: Table<Node, 256>,
     ghost lower: { AllLower (entries (rows_of nodes)) },

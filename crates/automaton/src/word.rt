@@ -51,6 +51,7 @@ impl<'a> Letter<'a> {
     }
 
     // Whether its mirror does.
+    // Stays: the name says which row is asked, and one method that takes the row would leave that to each caller.
     pub fn mirror_satisfies(self, name: u16) -> bool
         ensures value { result ≡ tells_of self.entry.other.now name }
     {

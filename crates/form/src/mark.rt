@@ -11,9 +11,10 @@ use property::place::Property;
 use psl::entry::Sequence;
 
 // Marks the pairs of the operands of sequence i under clock c.
+#[tactic(auto, using(property::proofs::Held::few))]
 fn mark_sequence(p: &Property, met: &mut Grid<bool>, i: usize, c: usize)
     requires there { i < length (sequences_of p.now) }
-    requires small { (i < 64) × (c < 64) × (length (conditions_of p.now) ≤ 64) }
+    requires clock { c < 64 }
     ensures { cells_of met.new ≡ with_operands (slice_index_or (sequences_of p.now) i (Is 0)) c (cells_of met.old) }
 {
     match sequence_at(p, i) {
@@ -34,9 +35,7 @@ fn mark_sequence(p: &Property, met: &mut Grid<bool>, i: usize, c: usize)
 pub(crate) fn mark_sequences(p: &Property, met: &mut Grid<bool>)
     ensures { cells_of met.new ≡ meet_sequences (sequences_of p.now) (64 * length (sequences_of p.now)) (cells_of met.old) }
 {
-    let n = p.sequence_count();
-    let _m = p.condition_count();
-    for k in (0..64 * n).rev() {
+    for k in (0..64 * p.sequence_count()).rev() {
         if met.at(k) {
             mark_sequence(p, met, k / 64, k % 64);
         }

@@ -12,9 +12,10 @@ use property::place::Property;
 use psl::entry::Formula;
 
 // Marks the pairs of the parts of formula i under clock c.
+#[tactic(auto, using(property::proofs::Held::few))]
 fn mark_formula(p: &Property, met: &mut Marks, i: usize, c: usize)
     requires there { i < length (formulas_of p.now) }
-    requires small { (i < 64) × (c < 64) × (length (conditions_of p.now) ≤ 64) × (length (sequences_of p.now) ≤ 64) }
+    requires clock { c < 64 }
     ensures { marks_of met.new ≡ with_parts (slice_index_or (formulas_of p.now) i (Strong 0)) c (marks_of met.old) }
 {
     match formula_at(p, i) {
@@ -37,10 +38,7 @@ fn mark_formula(p: &Property, met: &mut Marks, i: usize, c: usize)
 pub(crate) fn mark_formulas(p: &Property, met: &mut Marks)
     ensures { marks_of met.new ≡ meet_formulas (formulas_of p.now) (64 * length (formulas_of p.now)) (marks_of met.old) }
 {
-    let n = p.formula_count();
-    let _m = p.condition_count();
-    let _l = p.sequence_count();
-    for k in (0..64 * n).rev() {
+    for k in (0..64 * p.formula_count()).rev() {
         if met.formulas.at(k) {
             mark_formula(p, met, k / 64, k % 64);
         }

@@ -14,6 +14,7 @@ use property::place::Property;
 use psl::entry::Sequence;
 
 // Adds the image of sequence i under clock c.
+#[tactic(auto, using(property::proofs::Held::few))]
 pub(crate) fn write_sequence(
     p: &Property,
     d: &mut Draft,
@@ -23,9 +24,7 @@ pub(crate) fn write_sequence(
 ) -> u16
     requires carries { Carries p.now d.old }
     requires there { i < length (sequences_of p.now) }
-    requires small { i < 64 }
     requires clock { c < length (conditions_of p.now) }
-    requires few { length (conditions_of p.now) ≤ 64 }
     requires ready { ForOperands (SequencePlaced p.now d.old (cells_of places.now)) (slice_index_or (sequences_of p.now) i (Is 0)) c }
     requires room { (length (conditions_in d.old) + sequence_adds_conditions (slice_index_or (sequences_of p.now) i (Is 0)) ≤ 256) × (length (sequences_in d.old) + sequence_adds_sequences (slice_index_or (sequences_of p.now) i (Is 0)) ≤ 256) }
     ensures { WroteSequence p.now i c d.old d.new result }
@@ -59,10 +58,8 @@ pub(crate) fn write_sequences(p: &Property, met: &Grid<bool>, d: &mut Draft) -> 
         × (length (sequences_in d.old) + total (Is 0) sequence_adds_sequences (sequences_of p.now) (cells_of met.now) (64 * length (sequences_of p.now)) ≤ 256) }
     ensures { SequencesStand p.now (cells_of met.now) d.old d.new (cells_of result) (64 * length (sequences_of p.now)) }
 {
-    let n = p.sequence_count();
-    let _m = p.condition_count();
     let mut places = Grid::new(0);
-    for k in 0..64 * n {
+    for k in 0..64 * p.sequence_count() {
         if met.at(k) {
             let r = write_sequence(p, d, &places, k / 64, k % 64);
             places.put_at(k, r);

@@ -15,6 +15,7 @@ use property::place::Property;
 use psl::entry::Formula;
 
 // Adds the image of formula i under clock c.
+#[tactic(auto, using(property::proofs::Held::few))]
 pub(crate) fn write_formula(
     p: &Property,
     d: &mut Draft,
@@ -25,9 +26,7 @@ pub(crate) fn write_formula(
 ) -> u16
     requires carries { Carries p.now d.old }
     requires there { i < length (formulas_of p.now) }
-    requires small { i < 64 }
     requires clock { c < length (conditions_of p.now) }
-    requires few { (length (conditions_of p.now) ≤ 64) × (length (sequences_of p.now) ≤ 64) }
     requires ready { ForParts (FormulaPlaced p.now d.old (cells_of fs.now)) (SequencePlaced p.now d.old (cells_of rs.now)) (slice_index_or (formulas_of p.now) i (Strong 0)) c }
     requires room { Room d.old (formula_adds_conditions (slice_index_or (formulas_of p.now) i (Strong 0))) (formula_adds_formulas (slice_index_or (formulas_of p.now) i (Strong 0))) }
     ensures { WroteFormula p.now i c d.old d.new result }
@@ -60,11 +59,8 @@ pub(crate) fn write_formulas(
     requires room { Room d.old (total (Strong 0) formula_adds_conditions (formulas_of p.now) (cells_of met.now.formulas) (64 * length (formulas_of p.now))) (total (Strong 0) formula_adds_formulas (formulas_of p.now) (cells_of met.now.formulas) (64 * length (formulas_of p.now))) }
     ensures { FormulasStand p.now (cells_of met.now.formulas) (cells_of met.now.sequences) d.old d.new (cells_of sequences.now) (cells_of result) (64 * length (formulas_of p.now)) }
 {
-    let n = p.formula_count();
-    let _m = p.condition_count();
-    let _l = p.sequence_count();
     let mut places = Grid::new(0);
-    for k in 0..64 * n {
+    for k in 0..64 * p.formula_count() {
         if met.formulas.at(k) {
             let r = write_formula(p, d, sequences, &places, k / 64, k % 64);
             places.put_at(k, r);

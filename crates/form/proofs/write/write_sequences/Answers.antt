@@ -17,7 +17,7 @@ write_sequence-r-requires-clause-clock c =
     let p = c.args.p.now in
     let k = c.loop-k.k in
     let marked = get_or_from_slice_get c.args.met.now.cells k _ false c.at.ensures ∙ c.if-at.true in
-    let h : k < 64 * length (sequences_of p) = omega (arith, c.loop-k-test.true, c.sequence_count-n.ensures.value) in
+    let h : k < 64 * length (sequences_of p) = omega (arith, c.loop-k-test.true, c.sequence_count-k-end.ensures.value) in
     (ready_here p c.args.met.now.cells _ _ _ k c.loop-k.invariant c.requires.closed marked h (few_conditions p)).0
 
 pub write_sequence-r-requires-clause-ready : goal.write_sequence-r-requires-clause-ready
@@ -25,7 +25,7 @@ write_sequence-r-requires-clause-ready c =
     let p = c.args.p.now in
     let k = c.loop-k.k in
     let marked = get_or_from_slice_get c.args.met.now.cells k _ false c.at.ensures ∙ c.if-at.true in
-    let h : k < 64 * length (sequences_of p) = omega (arith, c.loop-k-test.true, c.sequence_count-n.ensures.value) in
+    let h : k < 64 * length (sequences_of p) = omega (arith, c.loop-k-test.true, c.sequence_count-k-end.ensures.value) in
     (ready_here p c.args.met.now.cells _ _ _ k c.loop-k.invariant c.requires.closed marked h (few_conditions p)).1
 
 pub write_sequence-r-requires-clause-room : goal.write_sequence-r-requires-clause-room
@@ -33,7 +33,7 @@ write_sequence-r-requires-clause-room c =
     let p = c.args.p.now in
     let k = c.loop-k.k in
     let marked = get_or_from_slice_get c.args.met.now.cells k _ false c.at.ensures ∙ c.if-at.true in
-    let h : k < 64 * length (sequences_of p) = omega (arith, c.loop-k-test.true, c.sequence_count-n.ensures.value) in
+    let h : k < 64 * length (sequences_of p) = omega (arith, c.loop-k-test.true, c.sequence_count-k-end.ensures.value) in
     room_here p c.args.met.now.cells _ _ _ k c.loop-k.invariant _ h marked c.requires.room
 
 pub loop-k-preserved : goal.loop-k-preserved
@@ -43,7 +43,7 @@ loop-k-preserved c =
     let inv = c.loop-k.invariant in
     let k = c.loop-k.k in
     let is = get_or_from_slice_get met k _ false c.at.ensures in
-    let room : k < length c.loop-k.places.cells = omega (arith, c.loop-k.places.long, c.loop-k-test.true, c.sequence_count-n.ensures.high_bound) in
+    let room : k < length c.loop-k.places.cells = omega (arith, c.loop-k.places.long, c.loop-k-test.true, c.sequence_count-k-end.ensures.high_bound) in
     elim c.if-at.branch [
       | then-at w ↦
           subst (λ d. SequencesStand p met c.args.d.now d c.if-at.places.cells (k + 1)) (sym w.d-is)

@@ -142,3 +142,6 @@ from_rewritten f is =
       sequences = is.count_s;
       formulas = is.count_f;
     }
+
+-- what a form place's promises rest on
+pub ruleset known = (root_there, stands, agrees, comes_from_images, from_rewritten)

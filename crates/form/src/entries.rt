@@ -6,6 +6,7 @@ ghost use Rattle.form.specs.Entries.{SequenceAt, FormulaAt};
 use property::place::Property;
 use psl::entry::{Formula, Sequence};
 
+#[tactic(auto, using(crate::proofs::Held::held_sequence))]
 pub(crate) fn sequence_at(property: &Property, i: usize) -> Sequence
     requires { i < length (sequences_of property.now) }
     ensures { SequenceAt property.now i result }
@@ -13,6 +14,7 @@ pub(crate) fn sequence_at(property: &Property, i: usize) -> Sequence
     property.sequences()[i]
 }
 
+#[tactic(auto, using(crate::proofs::Held::held_formula))]
 pub(crate) fn formula_at(property: &Property, i: usize) -> Formula
     requires { i < length (formulas_of property.now) }
     ensures { FormulaAt property.now i result }

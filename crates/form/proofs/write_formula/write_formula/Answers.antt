@@ -17,24 +17,6 @@ until_same : {t u : Condition} {x y v w : Formula} → t ≡ u → x ≡ y → v
     → until (negated (conjoined (strong t) (negated x))) (conjoined (strong t) v) ≡ until (negated (conjoined (strong u) (negated y))) (conjoined (strong u) w)
 until_same {u = u} {x = x} {v = v} e g h = ap (λ t. until (negated (conjoined (strong t) (negated x))) (conjoined (strong t) v)) e ∙ ap₂ (λ x v. until (negated (conjoined (strong u) (negated x))) (conjoined (strong u) v)) g h
 
-pub add_strong-requires : goal.add_strong-requires
-add_strong-requires c =
-    let told = c.in-Strong.ensures in
-    record {
-      clock = (c.requires.carries c.args.c c.requires.clock).there;
-      under = (c.requires.carries c.in-Strong.b (ltb-true _ _ told.names)).there;
-      room = (omega (arith, c.requires.room.0, ap formula_adds_conditions told.is), omega (arith, c.requires.room.1, ap formula_adds_formulas told.is));
-    }
-
-pub add_weak-requires : goal.add_weak-requires
-add_weak-requires c =
-    let told = c.in-Weak.ensures in
-    record {
-      clock = (c.requires.carries c.args.c c.requires.clock).there;
-      under = (c.requires.carries c.in-Weak.b (ltb-true _ _ told.names)).there;
-      room = (omega (arith, c.requires.room.0, ap formula_adds_conditions told.is), omega (arith, c.requires.room.1, ap formula_adds_formulas told.is));
-    }
-
 pub add_formula-requires-in-Abort : goal.add_formula-requires-in-Abort
 add_formula-requires-in-Abort c =
     let told = c.in-Abort.ensures in
@@ -51,8 +33,6 @@ returns-in-Strong c =
     let d = c.args.d.now in
     let i = c.args.i in
     let k = c.args.c in
-    let rs = c.args.rs.now.cells in
-    let fs = c.args.fs.now.cells in
     let there = c.requires.there in
     let told = c.in-Strong.ensures in
     let e = f.Strong c.in-Strong.b in
@@ -66,8 +46,6 @@ returns-in-Weak c =
     let d = c.args.d.now in
     let i = c.args.i in
     let k = c.args.c in
-    let rs = c.args.rs.now.cells in
-    let fs = c.args.fs.now.cells in
     let there = c.requires.there in
     let told = c.in-Weak.ensures in
     let e = f.Weak c.in-Weak.b in

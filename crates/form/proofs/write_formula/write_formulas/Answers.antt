@@ -5,6 +5,7 @@ use Rattle.property.proofs.Held.{few_conditions}
 use Rattle.form.specs.Grid.{cells_of}
 use Rattle.form.specs.FormulaImages.{FormulasStand}
 use Rattle.form.proofs.Grown.{grows_none}
+use Rattle.form.proofs.SequenceSteps.{inside}
 use Rattle.form.proofs.FormulaSteps.{step_yes, step_no, ready_here, room_here}
 use Rattle.form.proofs.write_formula.write_formulas.Goals as goal
 use Rattle.form.proofs.write_formula.write_formulas.Goals.{then-at, else-at}
@@ -12,29 +13,18 @@ use Rattle.form.proofs.write_formula.write_formulas.Goals.{then-at, else-at}
 pub loop-k-init : goal.loop-k-init
 loop-k-init c = (grows_none c.args.d.now, c.requires.carries, (λ i c l h m. let z : ⊥ = omega arith in absurd z), omega arith, omega arith, c.requires.written, refl)
 
-pub write_formula-r-requires-clause-clock : goal.write_formula-r-requires-clause-clock
-write_formula-r-requires-clause-clock c =
+pub write_formula-r-requires : goal.write_formula-r-requires
+write_formula-r-requires c =
     let p = c.args.p.now in
+    let fm = c.args.met.now.formulas.cells in
+    let sm = c.args.met.now.sequences.cells in
+    let inv = c.loop-k.invariant in
     let k = c.loop-k.k in
-    let marked = get_or_from_slice_get c.args.met.now.formulas.cells k _ false c.at.ensures ∙ c.if-at.true in
-    let h : k < 64 * length (formulas_of p) = omega (arith, c.loop-k-test.true, c.formula_count-k-end.ensures.value) in
-    (ready_here p c.args.met.now.formulas.cells c.args.met.now.sequences.cells _ _ _ _ k c.loop-k.invariant c.requires.closed marked h (few_conditions p)).0
-
-pub write_formula-r-requires-clause-ready : goal.write_formula-r-requires-clause-ready
-write_formula-r-requires-clause-ready c =
-    let p = c.args.p.now in
-    let k = c.loop-k.k in
-    let marked = get_or_from_slice_get c.args.met.now.formulas.cells k _ false c.at.ensures ∙ c.if-at.true in
-    let h : k < 64 * length (formulas_of p) = omega (arith, c.loop-k-test.true, c.formula_count-k-end.ensures.value) in
-    (ready_here p c.args.met.now.formulas.cells c.args.met.now.sequences.cells _ _ _ _ k c.loop-k.invariant c.requires.closed marked h (few_conditions p)).1
-
-pub write_formula-r-requires-clause-room : goal.write_formula-r-requires-clause-room
-write_formula-r-requires-clause-room c =
-    let p = c.args.p.now in
-    let k = c.loop-k.k in
-    let marked = get_or_from_slice_get c.args.met.now.formulas.cells k _ false c.at.ensures ∙ c.if-at.true in
-    let h : k < 64 * length (formulas_of p) = omega (arith, c.loop-k-test.true, c.formula_count-k-end.ensures.value) in
-    room_here p c.args.met.now.formulas.cells c.args.met.now.sequences.cells _ _ _ _ k c.loop-k.invariant _ h marked c.requires.room
+    let n = length (formulas_of p) in
+    let marked = get_or_from_slice_get fm k _ false c.at.ensures ∙ c.if-at.true in
+    let h : k < 64 * n = omega (arith, c.loop-k-test.true, c.formula_count-k-end.ensures.value) in
+    let ready = ready_here p fm sm _ _ _ _ k inv c.requires.closed marked h (few_conditions p) in
+    record { carries = inv.1; there = inside k n h; clock = ready.0; ready = ready.1; room = room_here p fm sm _ _ _ _ k inv _ h marked c.requires.room }
 
 pub loop-k-preserved : goal.loop-k-preserved
 loop-k-preserved c =

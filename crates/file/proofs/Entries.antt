@@ -1,5 +1,5 @@
 -- The entries of a section, taken one after another.
-use Rattle.std.proofs.Common.{◌≡◌, ℕ, ◌+◌, ◌-◌, ◌<◌, ◌≤◌, Bool, true, false, List, [], ◌∷◌, ◌++◌, length, get_or, take, drop, Some, None, Ok, sym, refl, ap, ◌∙◌, subst, append_assoc, arith}
+use Rattle.std.proofs.Common.{◌≡◌, ℕ, ◌+◌, ◌-◌, ◌≤◌, Bool, true, false, List, [], ◌∷◌, ◌++◌, length, get_or, take, drop, Some, None, Ok, sym, refl, ap, ◌∙◌, subst, append_assoc, arith}
 use mathlib.Core.Option.{none, some}
 use Rattle.std.proofs.lemmas.List.{take_rest, length_push}
 use Rattle.std.specs.declared.option.Option as std
@@ -34,15 +34,6 @@ raws_more xs h = subst (λ ys. raws xs ≡ front xs ∷ raws ys) (sym (take_rest
     dropped (k ∷ (a1 ∷ (a0 ∷ []))) h = absurd (omega arith)
     dropped (k ∷ (a1 ∷ (a0 ∷ (b1 ∷ [])))) h = absurd (omega arith)
     dropped (k ∷ (a1 ∷ (a0 ∷ (b1 ∷ (b0 ∷ rest))))) h = refl
-
--- fewer are none
-pub raws_none : (xs : List ℕ) → length xs < 5 → raws xs ≡ []
-raws_none [] h = refl
-raws_none (k ∷ []) h = refl
-raws_none (k ∷ (a1 ∷ [])) h = refl
-raws_none (k ∷ (a1 ∷ (a0 ∷ []))) h = refl
-raws_none (k ∷ (a1 ∷ (a0 ∷ (b1 ∷ [])))) h = refl
-raws_none (k ∷ (a1 ∷ (a0 ∷ (b1 ∷ (b0 ∷ rest))))) h = absurd (omega arith)
 
 located_none : (s : Section) (o : ℕ) (qs : List (Question Reason)) → first_no qs ≡ none → first_no (located s o qs) ≡ none
 located_none s o [] e = refl

@@ -22,6 +22,7 @@ pub(crate) trait Filling: Copy {
 }
 
 // The table with the entries that `part` spells, the first at the offset `at`.
+#[tactic(auto, using(crate::proofs::Entries::ends))]
 pub(crate) fn fill<F: Filling>(
     part: &[u8],
     section: Section,

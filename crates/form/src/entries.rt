@@ -6,6 +6,7 @@ ghost use Rattle.form.specs.Entries.{SequenceAt, FormulaAt};
 use property::place::Property;
 use psl::entry::{Formula, Sequence};
 
+// Stays: one line for each section; a generic one would take a trait with a law for what each section's entries may name, and is no plainer.
 #[tactic(auto, using(crate::proofs::Held::held_sequence))]
 pub(crate) fn sequence_at(property: &Property, i: usize) -> Sequence
     requires { i < length (sequences_of property.now) }

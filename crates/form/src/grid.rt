@@ -4,6 +4,7 @@ ghost use Rattle.std.specs.Prelude.{◌≡◌, ℕ, ◌<◌, ⊤, length};
 use std::alloc::AllocError;
 
 // A value for each pair of an entry and a clock, of both of which there are 64 at most.
+// Stays: entry and clock are two numbers, since an operand's pair takes its entry from one place and its clock from another; a struct of both is no plainer.
 pub(crate) struct Grid<T> {
     cells: [T; 4096],
     ghost long: { length cells ≡ 4096 },

@@ -35,6 +35,7 @@ fn mark_formula(p: &Property, met: &mut Marks, i: usize, c: usize)
 }
 
 // Marks, with each marked pair of a formula, those of its parts.
+// Stays: a loop beside that over sequences, since it writes both grids and that one writes one; a closure for the difference is no plainer.
 pub(crate) fn mark_formulas(p: &Property, met: &mut Marks)
     ensures { marks_of met.new ≡ meet_formulas (formulas_of p.now) (64 * length (formulas_of p.now)) (marks_of met.old) }
 {

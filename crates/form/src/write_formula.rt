@@ -47,6 +47,7 @@ pub(crate) fn write_formula(
 }
 
 // Adds the image of each marked pair of a formula and a clock.
+// Stays: a loop beside that over sequences, since it reads their places while it makes its own; a closure for the difference is no plainer.
 pub(crate) fn write_formulas(
     p: &Property,
     met: &Marks,

@@ -1,5 +1,5 @@
 -- The entries of a section, taken one after another.
-use Rattle.std.proofs.Common.{◌≡◌, ℕ, ◌+◌, ◌-◌, ◌<◌, ◌≤◌, Bool, true, false, List, [], ◌∷◌, ◌++◌, length, get_or, take, drop, Some, None, Ok, sym, refl, ap, ◌∙◌, subst, append_assoc, arith}
+use Rattle.std.proofs.Common.{◌≡◌, ℕ, ◌+◌, ◌-◌, ◌≤◌, Bool, true, false, List, [], ◌∷◌, ◌++◌, length, get_or, take, drop, Some, None, Ok, Err, Result, is_ok, sym, refl, ap, ◌∙◌, subst, append_assoc, arith}
 use mathlib.Core.Option.{none, some}
 use Rattle.std.proofs.lemmas.List.{take_rest, length_push}
 use Rattle.std.specs.declared.option.Option as std
@@ -35,15 +35,6 @@ raws_more xs h = subst (λ ys. raws xs ≡ front xs ∷ raws ys) (sym (take_rest
     dropped (k ∷ (a1 ∷ (a0 ∷ (b1 ∷ [])))) h = absurd (omega arith)
     dropped (k ∷ (a1 ∷ (a0 ∷ (b1 ∷ (b0 ∷ rest))))) h = refl
 
--- fewer are none
-pub raws_none : (xs : List ℕ) → length xs < 5 → raws xs ≡ []
-raws_none [] h = refl
-raws_none (k ∷ []) h = refl
-raws_none (k ∷ (a1 ∷ [])) h = refl
-raws_none (k ∷ (a1 ∷ (a0 ∷ []))) h = refl
-raws_none (k ∷ (a1 ∷ (a0 ∷ (b1 ∷ [])))) h = refl
-raws_none (k ∷ (a1 ∷ (a0 ∷ (b1 ∷ (b0 ∷ rest))))) h = absurd (omega arith)
-
 located_none : (s : Section) (o : ℕ) (qs : List (Question Reason)) → first_no qs ≡ none → first_no (located s o qs) ≡ none
 located_none s o [] e = refl
 located_none s o ((true otherwise f) ∷ qs) e = located_none s o qs e
@@ -53,6 +44,12 @@ located_some : (s : Section) (o : ℕ) (f : Reason) (qs : List (Question Reason)
 located_some s o f [] e = cc
 located_some s o f ((true otherwise g) ∷ qs) e = located_some s o f qs e
 located_some s o f ((false otherwise g) ∷ qs) e = let is : g ≡ f = cc in ap (λ x. some (refusal s o x)) is
+
+-- a call that is known to be granted took the entry
+pub took : {E A : Type 0} (rules rules' : Rules E) (before after : List E) (x : Raw) (r : Result A Reason) → true ≡ is_ok r
+    → Takes rules before x r rules' after → Takes rules before x (Ok (tt {0})) rules' after
+took rules rules' before after x (Ok a) granted told = told
+took rules rules' before after x (Err f) granted told = cc
 
 module _ {E : Type 0} (rules : Rules E) (s : Section) where
   -- an entry that is taken leaves the decision to the later ones

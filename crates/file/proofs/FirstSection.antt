@@ -89,3 +89,8 @@ module _ (bytes : List ℕ) where
 
         pub layout_whole : length bytes ≤ file_end bytes → first_no (about_layout bytes) ≡ none
         layout_whole h = past_three ∙ rw (le-leb (length bytes) (file_end bytes) h)
+
+-- what is known of one section, and of the three
+pub ruleset of_section = (count_missing, count_outside, entries_missing, section_whole)
+
+pub ruleset of_sections = (at_second, at_third, at_end, first_section_no, second_section_no, third_section_no, bytes_left_over, layout_whole)

@@ -1,6 +1,7 @@
 -- The sizes beside the sequences of a table.
 use Rattle.std.proofs.Common.{◌≡◌, ℕ, zero, suc, ◌≤◌, List, [], ◌∷◌, ◌++◌, length, get_or, take, Some, sym, ap, ◌∙◌, arith}
 use Rattle.std.specs.List.{slice_get}
+use Rattle.std.proofs.lemmas.Option.{unwrap_or-slice_get}
 use Rattle.psl.specs.declared.entry.Sequence.{Sequence}
 use Rattle.psl.proofs.Grow.{grow_push, length_grow, grow_nth}
 use Rattle.table.specs.Rows.{rows_of}
@@ -37,3 +38,9 @@ unfolding sizes
 sizes_nth es i z is =
     let (e, found, measured) = grow_nth size_over es i z is in
     (e, found, measured)
+
+-- reading a size, or 0
+pub ruleset reads = (unwrap_or-slice_get)
+
+-- one more sequence with its size
+pub ruleset more = (as_many_sizes, sizes_more, small_more)

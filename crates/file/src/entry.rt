@@ -8,6 +8,7 @@ use crate::raw::Raw;
 use crate::refusal::Reason;
 use crate::tables::Counts;
 
+// Stays: no TryFrom, whose contract is a relation to its result, where the rules of a section name the spelling as a function.
 pub(crate) trait Entry: Copy {
     // The entry that is spelled, if its kind is listed and each unused operand is 0.
     ghost spelled: { Raw → Option Self };

@@ -22,6 +22,7 @@ pub(crate) trait Filling: Copy {
 }
 
 // The table with the entries that `part` spells, the first at the offset `at`.
+#[tactic(auto, using(crate::proofs::Entries::ends))]
 pub(crate) fn fill<F: Filling>(
     part: &[u8],
     section: Section,
@@ -42,14 +43,12 @@ pub(crate) fn fill<F: Filling>(
             a: wide(*a1, *a0),
             b: wide(*b1, *b0),
         };
-        match table.take_entry(raw) {
-            Ok(_) => offset += 5,
-            Err(reason) => return Err(Refusal {
-                reason,
-                section,
-                offset,
-            }),
-        }
+        table.take_entry(raw).map_err(|reason| Refusal {
+            reason,
+            section,
+            offset,
+        })?;
+        offset += 5;
         rest = tail;
     }
     Ok(table)

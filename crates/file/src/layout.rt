@@ -18,6 +18,7 @@ fn least(section: Section) -> u16
 }
 
 // The count of the section whose count stands at the offset `at`.
+#[tactic(auto, using(crate::proofs::FirstSection::of_section))]
 fn count(bytes: &[u8], section: Section, at: usize) -> Result<usize, Refusal>
     requires { at ≤ length bytes.now }
     ensures { CountsSection section bytes.now at result }
@@ -48,6 +49,7 @@ fn count(bytes: &[u8], section: Section, at: usize) -> Result<usize, Refusal>
 }
 
 // The counts of a file in which every section is there, and nothing else.
+#[tactic(auto, using(crate::proofs::FirstSection::of_sections))]
 pub(crate) fn layout(bytes: &[u8]) -> Result<Counts, Refusal>
     ensures { LaysOut bytes.now result }
 {

@@ -61,6 +61,7 @@ pub(crate) struct Sequences {
 }
 
 impl Sequences {
+    #[tactic(auto, unfolding(crate::specs::Sizes::sizes))]
     pub(crate) fn new(conditions: usize) -> Sequences
         ensures { (result.conditions ≡ conditions) × (rows_of result.entries ≡ []) }
     {
@@ -72,6 +73,7 @@ impl Sequences {
     }
 
     // The size of sequence `a`, or 0 if there is none.
+    #[tactic(auto, using(crate::proofs::Sizes::reads))]
     fn size_at(&self, a: u16) -> u16
         ensures value { result ≡ slice_index (rows_of self.now.sizes) a }
         ensures bound { result ≤ 240 }
@@ -105,6 +107,7 @@ impl Filling for Sequences {
 
     ghost filled = { λ t. rows_of t.entries };
 
+    #[tactic(auto, using(crate::proofs::Sizes::more))]
     fn take_entry(&mut self, raw: Raw) -> Result<(), Reason> {
         let before = Counts {
             conditions: self.conditions,

@@ -1,7 +1,7 @@
 -- What entries are stays as it is when a form grows.
-use Rattle.std.proofs.Common.{◌≡◌, ℕ, suc, ◌+◌, ◌<◌, ◌≤◌, Bool, true, ltb, List, [], ◌∷◌, ◌++◌, length, get_or, sym, refl, ap, ◌∙◌, subst, ap₂, ⊎_elim, append_assoc, append-nil, arith, length-append, get_or-take}
+use Rattle.std.proofs.Common.{◌≡◌, ℕ, suc, ◌+◌, ◌<◌, Bool, true, ltb, List, [], ◌∷◌, ◌++◌, length, get_or, sym, refl, ap, ◌∙◌, subst, ap₂, ⊎_elim, append_assoc, append-nil, arith, length-append, get_or-take}
 use Rattle.std.proofs.lemmas.List.{take_at, length_push, get_or_push, get_or_append_left}
-use Rattle.std.proofs.lemmas.Bool.{ltb-true, lt-ltb, and_parts, and_from, cases_lt}
+use Rattle.std.proofs.lemmas.Bool.{ltb-true, and_parts, cases_lt}
 use Rattle.psl.specs.Syntax.{Condition, Sequence, Formula, falsity, empty, condition, sequence_at, strong, weak, strong_sequence, weak_sequence, abort, implies, formula_at}
 use Rattle.psl.specs.Table.{grow, condition_of, conditions, sequence_of, sequences, formula_of, formulas, nothing}
 use Rattle.psl.specs.declared.entry.Condition as entryC
@@ -103,37 +103,6 @@ grows_twice {c = c} {d = d} {e = e} g h =
 
 pub grows_none : (d : code.Draft) → Grows d d
 grows_none d = record { fs = []; formulas = sym (append-nil (formulas_in d)); cs = []; rs = []; conditions = sym (append-nil (conditions_in d)); sequences = sym (append-nil (sequences_in d)) }
-
--- more conditions may be named
-names_more : (n m i : ℕ) (e : entryS.Sequence) → n ≤ m → sequence_names n i e ≡ true → sequence_names m i e ≡ true
-names_more n m i (s.Condition a) h p = lt-ltb a m (omega (arith, ltb-true a n p))
-names_more n m i (s.Concat a b) h p = p
-names_more n m i (s.Fusion a b) h p = p
-names_more n m i (s.Either a b) h p = p
-names_more n m i (s.Both a b) h p = p
-names_more n m i s.Empty h p = p
-names_more n m i (s.Star a) h p = p
-names_more n m i (s.At a b) h p = let q = and_parts (ltb a i) _ p in and_from _ _ q.0 (lt-ltb b m (omega (arith, ltb-true b n q.1)))
-
-names_more_f : (n n' m m' i : ℕ) (e : entryF.Formula) → n ≤ n' → m ≤ m' → formula_names n m i e ≡ true → formula_names n' m' i e ≡ true
-names_more_f n n' m m' i (f.Strong a) h k p = lt-ltb a n' (omega (arith, ltb-true a n p))
-names_more_f n n' m m' i (f.Weak a) h k p = lt-ltb a n' (omega (arith, ltb-true a n p))
-names_more_f n n' m m' i (f.StrongSequence a) h k p = lt-ltb a m' (omega (arith, ltb-true a m p))
-names_more_f n n' m m' i (f.WeakSequence a) h k p = lt-ltb a m' (omega (arith, ltb-true a m p))
-names_more_f n n' m m' i (f.Not a) h k p = p
-names_more_f n n' m m' i (f.And a b) h k p = p
-names_more_f n n' m m' i (f.Next a) h k p = p
-names_more_f n n' m m' i (f.Until a b) h k p = p
-names_more_f n n' m m' i (f.Abort a b) h k p = let q = and_parts (ltb a i) _ p in and_from _ _ q.0 (lt-ltb b n' (omega (arith, ltb-true b n q.1)))
-names_more_f n n' m m' i (f.Implies a b) h k p = let q = and_parts (ltb a m) _ p in and_from _ _ (lt-ltb a m' (omega (arith, ltb-true a m q.0))) q.1
-names_more_f n n' m m' i (f.At a b) h k p = let q = and_parts (ltb a i) _ p in and_from _ _ q.0 (lt-ltb b n' (omega (arith, ltb-true b n q.1)))
-
-pub sequences_more : (n m : ℕ) (es : List entryS.Sequence) → n ≤ m → AllNamed (sequence_names n) (s.Condition 0) es → AllNamed (sequence_names m) (s.Condition 0) es
-sequences_more n m es h named k l = names_more n m k _ h (named k l)
-
-pub formulas_more : (n n' m m' : ℕ) (es : List entryF.Formula) → n ≤ n' → m ≤ m'
-    → AllNamed (formula_names n m) (f.Strong 0) es → AllNamed (formula_names n' m') (f.Strong 0) es
-formulas_more n n' m m' es h j named k l = names_more_f n n' m m' k _ h j (named k l)
 
 formula_same : (n m : ℕ) (cs ds : List Condition) (rs us : List Sequence) (acc : List Formula) (i : ℕ) (e : entryF.Formula)
     → ((a : ℕ) → a < n → get_or ds a falsity ≡ get_or cs a falsity) → ((a : ℕ) → a < m → get_or us a empty ≡ get_or rs a empty)

@@ -13,4 +13,3 @@ pub mod Begun
 pub mod NewForm
 pub mod Origins
 pub mod Made
-pub mod Asked

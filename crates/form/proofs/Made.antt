@@ -1,5 +1,5 @@
 -- What a form place says for ever: where its root is, and what it is.
-use Rattle.std.proofs.Common.{◌≡◌, ℕ, zero, suc, ◌-◌, ◌<◌, true, ltb, ◌⊎◌, ◌↔◌, List, [], ◌∷◌, length, get_or, sym, refl, ap, ◌∙◌, subst, ap₂, inl, inr, ⊎_elim, arith}
+use Rattle.std.proofs.Common.{◌≡◌, ℕ, ◌-◌, ◌<◌, true, ltb, ◌⊎◌, ◌↔◌, List, [], ◌∷◌, length, get_or, sym, refl, ap, ◌∙◌, subst, ap₂, inl, inr, ⊎_elim, arith}
 use native.Mathlib.Decide.{ℕ_discrete}
 use Rattle.std.proofs.lemmas.Bool.{ltb-true, lt-ltb, eqb-true, eq-eqb, and_parts, and_from, or_cases, or_left, or_right}
 use Rattle.psl.specs.Syntax.{Formula, truth, falsity, weak, Condition-discrete, Sequence-discrete, Formula-discrete}
@@ -10,14 +10,12 @@ use Rattle.psl.specs.declared.entry.Condition as entryC
 use Rattle.psl.specs.declared.entry.Condition.TheVariants.{True}
 use Rattle.psl.specs.declared.entry.Sequence as entryS
 use Rattle.psl.specs.declared.entry.Formula as entryF
-use Rattle.psl.specs.declared.entry.Formula.TheVariants.{Strong, Weak}
-use Rattle.file.specs.Operands.{condition_names, formula_names}
+use Rattle.psl.specs.declared.entry.Formula.TheVariants.{Weak}
 use Rattle.property.specs.declared.place.Property.{Property}
 use Rattle.property.specs.Place.{conditions_of, sequences_of, formulas_of, condition_trees, sequence_trees, formula_trees, property_tree}
 use Rattle.form.specs.declared.draft.Draft as code
 use Rattle.form.specs.declared.place.Form.{Form}
 use Rattle.form.specs.Draft.{formulas_in, formula_in}
-use Rattle.form.specs.Named.{AllNamed}
 use Rattle.form.specs.FormulaImages.{formula_image}
 use Rattle.form.specs.Made.{answer, same_formula, rewriting, rewrites, as_new, made}
 use Rattle.form.specs.Rewritten.{Rewritten}
@@ -71,15 +69,6 @@ new_rewriting p cs rs fs =
   where
     tree : List entryC.Condition → List entryS.Sequence → List entryF.Formula → Formula
     tree es xs ys = get_or (formulas (conditions es) (sequences (conditions es) xs) ys) (length ys - 1) nothing
-
--- the entries of a new form name what they may
-pub first_condition : AllNamed condition_names True (True ∷ [])
-first_condition zero h = refl
-first_condition (suc k) h = let z : ⊥ = omega arith in absurd z
-
-pub first_formula : AllNamed (formula_names 1 0) (Strong 0) (Weak 0 ∷ [])
-first_formula zero h = refl
-first_formula (suc k) h = let z : ⊥ = omega arith in absurd z
 
 module _ (f : Form) where
   parts : (f.rooted.root < length (formulas_in f.rooted.draft)) × ((rewrites f.property f.rooted.draft f.rooted.root ≡ true) ⊎ (as_new f.property f.rooted.draft f.rooted.root ≡ true))
@@ -142,3 +131,6 @@ from_rewritten f is =
       sequences = is.count_s;
       formulas = is.count_f;
     }
+
+-- what a form place's promises rest on
+pub ruleset known = (root_there, stands, agrees, comes_from_images, from_rewritten)

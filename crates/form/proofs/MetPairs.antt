@@ -1,5 +1,6 @@
 -- The marks that are made are the least closed ones.
 use Rattle.std.proofs.Common.{◌≡◌, ℕ, zero, suc, ◌-◌, ◌*◌, ◌<◌, ◌≤◌, Bool, true, false, List, length, get_or, set, replicate, refl, ap, ◌∙◌, ⊎_elim, arith, length-set}
+use Rattle.std.proofs.lemmas.List.{length-replicate}
 use Rattle.std.proofs.lemmas.Bool.{both_ways}
 use Rattle.property.specs.declared.place.Property.{Property}
 use Rattle.property.specs.Place.{conditions_of, sequences_of, formulas_of}
@@ -19,10 +20,6 @@ replicate_at zero k = refl
 replicate_at (suc n) zero = refl
 replicate_at (suc n) (suc k) = replicate_at n k
 
-length_replicate : (n : ℕ) → length (replicate n false) ≡ n
-length_replicate zero = refl
-length_replicate (suc n) = ap suc (length_replicate n)
-
 module _ (p : Property) where
   abbrev root : ℕ
   root = key (length (formulas_of p) - 1) 0
@@ -31,7 +28,7 @@ module _ (p : Property) where
   first = set unmarked root true
 
   root_fits : root < length unmarked
-  root_fits = omega (arith, length_replicate 4096, few_formulas p, some_formulas p)
+  root_fits = omega (arith, length-replicate 4096 false, few_formulas p, some_formulas p)
 
   -- nothing is marked but the root
   first_only : (i c : ℕ) → c < 64 → Marked first i c → c ≡ 0
@@ -41,9 +38,6 @@ module _ (p : Property) where
   none_marked : (i c : ℕ) → Marked unmarked i c → ⊥
   none_marked i c m = both_ways (get_or unmarked (key i c) false) (replicate_at 4096 (key i c)) m
 
-  abbrev start_f : Marks
-  start_f = root_marked p
-
   formulas_made : formula.Inv p first unmarked (formulas_met p).formulas (formulas_met p).sequences 0
   unfolding formulas_met
   formulas_made =
@@ -51,7 +45,7 @@ module _ (p : Property) where
       (formula.start p first unmarked
       (λ i c l m. omega (arith, first_only i c l m, some_conditions p))
       (λ i c l m. absurd (none_marked i c m))
-      (length-set unmarked root true ∙ length_replicate 4096) (length_replicate 4096) (few_formulas p) (λ i c there l u. omega arith))
+      (length-set unmarked root true ∙ length-replicate 4096 false) (length-replicate 4096 false) (few_formulas p) (λ i c there l u. omega arith))
 
   abbrev used : List Bool
   used = (formulas_met p).sequences

@@ -1,6 +1,8 @@
 -- The parts of a property's rewriting come from the property.
-use Rattle.std.proofs.Common.{◌≡◌, ℕ, zero, suc, ◌-◌, ◌<◌, ◌≤◌, true, ltb, List, [], ◌∷◌, map, length, get_or, take, Some, sym, refl, ap, ◌∙◌, subst, arith, get_or-take}
+use Rattle.std.proofs.Common.{◌≡◌, ℕ, zero, suc, ◌-◌, ◌<◌, ◌≤◌, true, ltb, List, [], map, length, get_or, take, Some, sym, refl, ap, ◌∙◌, subst, arith, get_or-take}
 use Rattle.std.specs.List.{slice_get}
+use Rattle.std.specs.Option.{option_map}
+use Rattle.std.proofs.lemmas.Option.{slice_get-map, slice_get-get_or}
 use Rattle.std.proofs.lemmas.Bool.{ltb-true, and_parts}
 use Rattle.psl.specs.Syntax.{Condition, Sequence, Formula, empty, falsity, strong, weak, strong_sequence, weak_sequence, negated, conjoined, next, until, abort, implies, formula_at}
 use Rattle.psl.specs.Table.{sequence_of, sequences, formula_of, nothing, size}
@@ -34,9 +36,7 @@ images c (implies r f) h = ((c, r, h.0, refl), images c f h.1)
 images c (formula_at f d) h = images d f h
 
 nth_sized : (rs : List Sequence) (a : ℕ) → a < length rs → slice_get (map size rs) a ≡ Some (size (get_or rs a empty))
-nth_sized [] a h = let z : ⊥ = omega arith in absurd z
-nth_sized (r ∷ rs) zero h = refl
-nth_sized (r ∷ rs) (suc a) h = nth_sized rs a (omega arith)
+nth_sized rs a h = slice_get-map size rs a ∙ ap (option_map size) (slice_get-get_or rs a empty h)
 
 module _ (p : Property) where
   tree_count : length (sequence_trees p) ≡ length (sequences_of p)

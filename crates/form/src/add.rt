@@ -10,6 +10,7 @@ use crate::draft::Draft;
 use psl::entry::{Condition, Formula, Sequence};
 
 impl Draft {
+    // Stays: one line for each table over its own push, since entries of each name other tables; a trait for the three is no plainer.
     pub(crate) fn add_condition(&mut self, e: Condition) -> u16
         requires room { length (conditions_in self.old) < 256 }
         requires names { condition_names (length (conditions_in self.old)) e ≡ true }

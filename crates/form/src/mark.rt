@@ -12,9 +12,9 @@ use property::place::Property;
 use psl::entry::Sequence;
 
 // Marks the pairs of the operands of a pair.
+#[tactic(auto, using(property::proofs::Held::few))]
 fn mark_sequence(p: &Property, met: &mut Grid<bool>, pair: Pair)
     requires there { pair.entry < length (sequences_of p.now) }
-    requires few { length (conditions_of p.now) ≤ 64 }
     ensures { cells_of met.new ≡ with_operands (slice_index_or (sequences_of p.now) pair.entry (Is 0)) pair.clock (cells_of met.old) }
 {
     match sequence_at(p, pair.entry) {
@@ -35,9 +35,7 @@ fn mark_sequence(p: &Property, met: &mut Grid<bool>, pair: Pair)
 pub(crate) fn mark_sequences(p: &Property, met: &mut Grid<bool>)
     ensures { cells_of met.new ≡ meet_sequences (sequences_of p.now) (64 * length (sequences_of p.now)) (cells_of met.old) }
 {
-    let n = p.sequence_count();
-    let _m = p.condition_count();
-    for k in (0..64 * n).rev() {
+    for k in (0..64 * p.sequence_count()).rev() {
         let pair = Pair::of(k);
         if met.get(pair) {
             mark_sequence(p, met, pair);

@@ -13,9 +13,9 @@ use property::place::Property;
 use psl::entry::Formula;
 
 // Marks the pairs of the parts of a pair.
+#[tactic(auto, using(property::proofs::Held::few))]
 fn mark_formula(p: &Property, met: &mut Marks, pair: Pair)
     requires there { pair.entry < length (formulas_of p.now) }
-    requires few { (length (conditions_of p.now) ≤ 64) × (length (sequences_of p.now) ≤ 64) }
     ensures { marks_of met.new ≡ with_parts (slice_index_or (formulas_of p.now) pair.entry (Strong 0)) pair.clock (marks_of met.old) }
 {
     match formula_at(p, pair.entry) {
@@ -39,13 +39,11 @@ fn mark_formula(p: &Property, met: &mut Marks, pair: Pair)
 }
 
 // Marks, with each marked pair of a formula, those of its parts.
+// Stays: a loop beside that over sequences, since it writes both grids and that one writes one; a closure for the difference is no plainer.
 pub(crate) fn mark_formulas(p: &Property, met: &mut Marks)
     ensures { marks_of met.new ≡ meet_formulas (formulas_of p.now) (64 * length (formulas_of p.now)) (marks_of met.old) }
 {
-    let n = p.formula_count();
-    let _m = p.condition_count();
-    let _l = p.sequence_count();
-    for k in (0..64 * n).rev() {
+    for k in (0..64 * p.formula_count()).rev() {
         let pair = Pair::of(k);
         if met.formulas.get(pair) {
             mark_formula(p, met, pair);

@@ -15,11 +15,11 @@ use property::place::Property;
 use psl::entry::Sequence;
 
 // Adds the image of a pair.
+#[tactic(auto, using(property::proofs::Held::few))]
 pub(crate) fn write_sequence(p: &Property, d: &mut Draft, places: &Grid<u16>, pair: Pair) -> u16
     requires carries { Carries p.now d.old }
     requires there { pair.entry < length (sequences_of p.now) }
     requires clock { pair.clock < length (conditions_of p.now) }
-    requires few { length (conditions_of p.now) ≤ 64 }
     requires ready { ForOperands (SequencePlaced p.now d.old (cells_of places.now)) (slice_index_or (sequences_of p.now) pair.entry (Is 0)) pair.clock }
     requires room { (length (conditions_in d.old) + sequence_adds_conditions (slice_index_or (sequences_of p.now) pair.entry (Is 0)) ≤ 256) × (length (sequences_in d.old) + sequence_adds_sequences (slice_index_or (sequences_of p.now) pair.entry (Is 0)) ≤ 256) }
     ensures { WroteSequence p.now pair.entry pair.clock d.old d.new result }
@@ -56,10 +56,8 @@ pub(crate) fn write_sequences(p: &Property, met: &Grid<bool>, d: &mut Draft) -> 
         × (length (sequences_in d.old) + total (Is 0) sequence_adds_sequences (sequences_of p.now) (cells_of met.now) (64 * length (sequences_of p.now)) ≤ 256) }
     ensures { SequencesStand p.now (cells_of met.now) d.old d.new (cells_of result) (64 * length (sequences_of p.now)) }
 {
-    let n = p.sequence_count();
-    let _m = p.condition_count();
     let mut places = Grid::new(0);
-    for k in 0..64 * n {
+    for k in 0..64 * p.sequence_count() {
         let pair = Pair::of(k);
         if met.get(pair) {
             let r = write_sequence(p, d, &places, pair);

@@ -16,6 +16,7 @@ use property::place::Property;
 use psl::entry::Formula;
 
 // Adds the image of a pair.
+#[tactic(auto, using(property::proofs::Held::few))]
 pub(crate) fn write_formula(
     p: &Property,
     d: &mut Draft,
@@ -26,7 +27,6 @@ pub(crate) fn write_formula(
     requires carries { Carries p.now d.old }
     requires there { pair.entry < length (formulas_of p.now) }
     requires clock { pair.clock < length (conditions_of p.now) }
-    requires few { (length (conditions_of p.now) ≤ 64) × (length (sequences_of p.now) ≤ 64) }
     requires ready { ForParts (FormulaPlaced p.now d.old (cells_of fs.now)) (SequencePlaced p.now d.old (cells_of rs.now)) (slice_index_or (formulas_of p.now) pair.entry (Strong 0)) pair.clock }
     requires room { Room d.old (formula_adds_conditions (slice_index_or (formulas_of p.now) pair.entry (Strong 0))) (formula_adds_formulas (slice_index_or (formulas_of p.now) pair.entry (Strong 0))) }
     ensures { WroteFormula p.now pair.entry pair.clock d.old d.new result }
@@ -53,6 +53,7 @@ pub(crate) fn write_formula(
 }
 
 // Adds the image of each marked pair of a formula and a clock.
+// Stays: a loop beside that over sequences, since it reads their places while it makes its own; a closure for the difference is no plainer.
 pub(crate) fn write_formulas(
     p: &Property,
     met: &Marks,
@@ -65,11 +66,8 @@ pub(crate) fn write_formulas(
     requires room { Room d.old (total (Strong 0) formula_adds_conditions (formulas_of p.now) (cells_of met.now.formulas) (64 * length (formulas_of p.now))) (total (Strong 0) formula_adds_formulas (formulas_of p.now) (cells_of met.now.formulas) (64 * length (formulas_of p.now))) }
     ensures { FormulasStand p.now (cells_of met.now.formulas) (cells_of met.now.sequences) d.old d.new (cells_of sequences.now) (cells_of result) (64 * length (formulas_of p.now)) }
 {
-    let n = p.formula_count();
-    let _m = p.condition_count();
-    let _l = p.sequence_count();
     let mut places = Grid::new(0);
-    for k in 0..64 * n {
+    for k in 0..64 * p.formula_count() {
         let pair = Pair::of(k);
         if met.formulas.get(pair) {
             let r = write_formula(p, d, sequences, &places, pair);

@@ -1,23 +1,24 @@
 // What each kind of entry adds, and which pairs are met.
-use crate::files::{ON_TRUE, Outcome, Row, TRUE, WEAK, forming};
+use crate::files::{Outcome, forming};
 use form::place::Form;
 use std::test::Fail;
+use test_files::rows::{ON_TRUE, Row, TRUE, WEAK};
 
 // A last formula over a weak one, beside a sequence on a condition.
 #[test]
 fn formulas(rt: HostRuntime) -> Result<(), Fail> {
     let table: [(Row, Outcome); 11] = [
-        ([0, 0, 0, 0, 0], Outcome(0, 3, 0, 3)),
-        ([1, 0, 0, 0, 0], Outcome(0, 4, 0, 4)),
-        ([2, 0, 0, 0, 0], Outcome(0, 3, 4, 1)),
-        ([3, 0, 0, 0, 0], Outcome(0, 3, 4, 1)),
-        ([4, 0, 0, 0, 0], Outcome(0, 4, 0, 5)),
-        ([5, 0, 0, 0, 0], Outcome(0, 4, 0, 5)),
-        ([6, 0, 0, 0, 0], Outcome(0, 5, 0, 11)),
-        ([7, 0, 0, 0, 0], Outcome(0, 4, 0, 10)),
-        ([8, 0, 0, 0, 0], Outcome(0, 4, 0, 5)),
-        ([9, 0, 0, 0, 0], Outcome(0, 6, 4, 5)),
-        ([10, 0, 0, 0, 0], Outcome(0, 4, 0, 4)),
+        ([0, 0, 0, 0, 0], Outcome(Ok(()), 3, 0, 3)),
+        ([1, 0, 0, 0, 0], Outcome(Ok(()), 4, 0, 4)),
+        ([2, 0, 0, 0, 0], Outcome(Ok(()), 3, 4, 1)),
+        ([3, 0, 0, 0, 0], Outcome(Ok(()), 3, 4, 1)),
+        ([4, 0, 0, 0, 0], Outcome(Ok(()), 4, 0, 5)),
+        ([5, 0, 0, 0, 0], Outcome(Ok(()), 4, 0, 5)),
+        ([6, 0, 0, 0, 0], Outcome(Ok(()), 5, 0, 11)),
+        ([7, 0, 0, 0, 0], Outcome(Ok(()), 4, 0, 10)),
+        ([8, 0, 0, 0, 0], Outcome(Ok(()), 4, 0, 5)),
+        ([9, 0, 0, 0, 0], Outcome(Ok(()), 6, 4, 5)),
+        ([10, 0, 0, 0, 0], Outcome(Ok(()), 4, 0, 4)),
     ];
     for (row, expected) in table {
         assert_eq!(rt;
@@ -32,14 +33,14 @@ fn formulas(rt: HostRuntime) -> Result<(), Fail> {
 #[test]
 fn sequences(rt: HostRuntime) -> Result<(), Fail> {
     let table: [(Row, Outcome); 8] = [
-        ([0, 0, 0, 0, 0], Outcome(0, 3, 4, 1)),
-        ([1, 0, 0, 0, 0], Outcome(0, 3, 5, 1)),
-        ([2, 0, 0, 0, 0], Outcome(0, 3, 5, 1)),
-        ([3, 0, 0, 0, 0], Outcome(0, 3, 5, 1)),
-        ([4, 0, 0, 0, 0], Outcome(0, 3, 5, 1)),
-        ([5, 0, 0, 0, 0], Outcome(0, 1, 1, 1)),
-        ([6, 0, 0, 0, 0], Outcome(0, 3, 5, 1)),
-        ([7, 0, 0, 0, 0], Outcome(0, 3, 4, 1)),
+        ([0, 0, 0, 0, 0], Outcome(Ok(()), 3, 4, 1)),
+        ([1, 0, 0, 0, 0], Outcome(Ok(()), 3, 5, 1)),
+        ([2, 0, 0, 0, 0], Outcome(Ok(()), 3, 5, 1)),
+        ([3, 0, 0, 0, 0], Outcome(Ok(()), 3, 5, 1)),
+        ([4, 0, 0, 0, 0], Outcome(Ok(()), 3, 5, 1)),
+        ([5, 0, 0, 0, 0], Outcome(Ok(()), 1, 1, 1)),
+        ([6, 0, 0, 0, 0], Outcome(Ok(()), 3, 5, 1)),
+        ([7, 0, 0, 0, 0], Outcome(Ok(()), 3, 4, 1)),
     ];
     for (row, expected) in table {
         assert_eq!(rt;
@@ -56,27 +57,27 @@ fn clocks(rt: HostRuntime) -> Result<(), Fail> {
     let table: [([Row; 3], Outcome); 6] = [
         (
             [[10, 0, 1, 0, 1], [10, 0, 2, 0, 0], [10, 0, 3, 0, 1]],
-            Outcome(0, 5, 0, 4),
+            Outcome(Ok(()), 5, 0, 4),
         ),
         (
             [[10, 0, 1, 0, 1], [10, 0, 1, 0, 1], [5, 0, 2, 0, 3]],
-            Outcome(0, 5, 0, 5),
+            Outcome(Ok(()), 5, 0, 5),
         ),
         (
             [[10, 0, 1, 0, 1], [10, 0, 1, 0, 0], [5, 0, 2, 0, 3]],
-            Outcome(0, 8, 0, 9),
+            Outcome(Ok(()), 8, 0, 9),
         ),
         (
             [[10, 0, 1, 0, 1], [4, 0, 1, 0, 0], [5, 0, 2, 0, 1]],
-            Outcome(0, 8, 0, 9),
+            Outcome(Ok(()), 8, 0, 9),
         ),
         (
             [[4, 0, 0, 0, 0], [4, 0, 1, 0, 0], [4, 0, 1, 0, 0]],
-            Outcome(0, 5, 0, 5),
+            Outcome(Ok(()), 5, 0, 5),
         ),
         (
             [[5, 0, 0, 0, 1], [5, 0, 2, 0, 2], [5, 0, 3, 0, 3]],
-            Outcome(0, 7, 0, 10),
+            Outcome(Ok(()), 7, 0, 10),
         ),
     ];
     for ([a, b, c], expected) in table {

@@ -1,55 +1,42 @@
-// Properties made of rows, and what comes of removing their clocks.
+// What comes of removing the clocks of properties made of rows.
 use form::place::Form;
 use property::place::Property;
 use std::alloc::{AllocError, Global};
+use test_files::rows::{Row, file};
 
-// An entry: kind, operand A, operand B.
-pub type Row = [u8; 5];
-
-// The condition true, the sequence on condition 0, and the weak formula on it.
-pub const TRUE: Row = [0, 0, 0, 0, 0];
-
-pub const ON_TRUE: Row = [0, 0, 0, 0, 0];
-
-pub const WEAK: Row = [1, 0, 0, 0, 0];
-
-// The number of the refusal or 0, and then how many conditions, sequences and formulas the place holds.
+// The number of the refusal of a file, or of a property whose clocks are not removed.
 #[derive(Clone, Copy, PartialEq, Eq, Debug)]
-pub struct Outcome(pub u8, pub usize, pub usize, pub usize);
-
-fn section(file: &mut Vec<u8>, rows: &[Row]) -> Result<(), AllocError> {
-    let count = rows.len();
-    file.push((count / 256 % 256) as u8)?;
-    file.push((count % 256) as u8)?;
-    for row in rows {
-        file.extend_from_slice(row)?;
-    }
-    Ok(())
+pub enum Refused {
+    File(u8),
+    Form(u8),
 }
 
-// What comes of removing the clocks of the property with these sections; 99 if it is refused.
+// What comes of removing clocks, and then how many conditions, sequences and formulas the place holds.
+#[derive(Clone, Copy, PartialEq, Eq, Debug)]
+pub struct Outcome(pub Result<(), Refused>, pub usize, pub usize, pub usize);
+
+// Removes the clocks of the property that the bytes spell.
+fn remove_clocks(bytes: &[u8], form: &mut Form) -> Result<(), Refused> {
+    let mut property = Property::new();
+    property
+        .read(bytes)
+        .map_err(|refusal| Refused::File(refusal.reason.number()))?;
+    form.remove_clocks(&property)
+        .map_err(|refusal| Refused::Form(refusal.number()))
+}
+
+// What comes of removing the clocks of the property with these sections.
 pub(crate) fn forming(
     heap: Global,
     conditions: &[Row],
     sequences: &[Row],
     formulas: &[Row],
 ) -> Result<Outcome, AllocError> {
-    let mut bytes = Vec::new(heap);
-    section(&mut bytes, conditions)?;
-    section(&mut bytes, sequences)?;
-    section(&mut bytes, formulas)?;
-    let mut property = Property::new();
+    let bytes = file(heap, conditions, sequences, formulas)?;
     let mut form = Form::new();
-    let number = if property.read(&bytes).is_err() {
-        99
-    } else {
-        match form.remove_clocks(&property) {
-            Ok(_) => 0,
-            Err(refusal) => refusal.number(),
-        }
-    };
+    let answer = remove_clocks(&bytes, &mut form);
     Ok(Outcome(
-        number,
+        answer,
         form.conditions().len(),
         form.sequences().len(),
         form.formulas().len(),

@@ -1,7 +1,8 @@
 // Each limit reached exactly, and passed by one; a refusal keeps what was there.
-use crate::files::{ON_TRUE, Outcome, Row, TRUE, WEAK, forming};
+use crate::files::{Outcome, Refused, forming};
 use std::alloc::{AllocError, Global};
 use std::test::Fail;
+use test_files::rows::{ON_TRUE, Row, TRUE, WEAK};
 
 fn number(n: usize) -> u8 {
     (n % 256) as u8
@@ -29,11 +30,11 @@ fn conditions(rt: HostRuntime) -> Result<(), Fail> {
     let formulas = under_clocks(rt.alloc(), &[WEAK, [9, 0, 2, 0, 0]], 1, 28)?;
     assert_eq!(rt;
         forming(rt.alloc(), &[TRUE; 60], &sequences, &formulas)?,
-        Outcome(0, 256, 252, 167)
+        Outcome(Ok(()), 256, 252, 167)
     );
     assert_eq!(rt;
         forming(rt.alloc(), &[TRUE; 61], &sequences, &formulas)?,
-        Outcome(31, 1, 0, 1)
+        Outcome(Err(Refused::Form(31)), 1, 0, 1)
     );
     Ok(())
 }
@@ -54,13 +55,13 @@ fn sequences(rt: HostRuntime) -> Result<(), Fail> {
     let mut formulas = under_clocks(rt.alloc(), &[[2, 0, 6, 0, 0]], 0, 16)?;
     assert_eq!(rt;
         forming(rt.alloc(), &[TRUE; 16], &sequences, &formulas)?,
-        Outcome(0, 112, 256, 31)
+        Outcome(Ok(()), 112, 256, 31)
     );
     formulas.push([2, 0, 7, 0, 0])?;
     formulas.push([5, 0, 30, 0, 31])?;
     assert_eq!(rt;
         forming(rt.alloc(), &[TRUE; 16], &sequences, &formulas)?,
-        Outcome(32, 1, 0, 1)
+        Outcome(Err(Refused::Form(32)), 1, 0, 1)
     );
     Ok(())
 }
@@ -75,12 +76,12 @@ fn formulas(rt: HostRuntime) -> Result<(), Fail> {
     }
     assert_eq!(rt;
         forming(rt.alloc(), &[TRUE], &[], &formulas)?,
-        Outcome(0, 4, 0, 256)
+        Outcome(Ok(()), 4, 0, 256)
     );
     formulas.push([4, 0, 42, 0, 0])?;
     assert_eq!(rt;
         forming(rt.alloc(), &[TRUE], &[], &formulas)?,
-        Outcome(33, 1, 0, 1)
+        Outcome(Err(Refused::Form(33)), 1, 0, 1)
     );
     Ok(())
 }

@@ -68,3 +68,6 @@ module _ (p : Property) where
 
 -- what the accessors' promises rest on
 pub ruleset known = (some_conditions, some_formulas, condition_fine, sequence_fine, formula_fine, size_fine, conditions_inspected, sequences_inspected, formulas_inspected)
+
+-- no section has more than 64 entries
+pub ruleset few = (few_conditions, few_sequences, few_formulas)

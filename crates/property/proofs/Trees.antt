@@ -1,6 +1,7 @@
 -- The size of a sequence entry is the size of the tree that it denotes.
-use Rattle.std.proofs.Common.{◌≡◌, ℕ, zero, suc, List, [], ◌∷◌, ◌++◌, map, get_or, sym, refl, ap, ◌∙◌}
+use Rattle.std.proofs.Common.{◌≡◌, ℕ, List, [], ◌∷◌, ◌++◌, map, get_or, sym, refl, ap, ◌∙◌}
 use mathlib.Core.List.{map-append}
+use Rattle.std.proofs.Math.ListN.{get_or-map}
 use Rattle.psl.specs.Syntax.{Condition, Sequence, empty}
 use Rattle.psl.specs.Table.{grow, sequence_of, sequences, size}
 use Rattle.psl.specs.declared.entry.Sequence as entry
@@ -8,9 +9,7 @@ use Rattle.psl.specs.declared.entry.Sequence.TheVariants as s
 use Rattle.file.specs.Sizes.{sizes, size_over}
 
 size_at : (rs : List Sequence) (a : ℕ) → get_or (map size rs) a 0 ≡ size (get_or rs a empty)
-size_at [] a = refl
-size_at (r ∷ rs) zero = refl
-size_at (r ∷ rs) (suc a) = size_at rs a
+size_at rs a = get_or-map size rs a empty
 
 size_of_entry : (cs : List Condition) (rs : List Sequence) (e : entry.Sequence) → size_over (map size rs) e ≡ size (sequence_of cs rs e)
 size_of_entry cs rs (s.Condition a) = refl

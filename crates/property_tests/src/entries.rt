@@ -1,6 +1,7 @@
 // Each question to an entry, in each section where it can get a no.
-use crate::files::{ON_TRUE, Outcome, Row, TRUE, WEAK, sections};
+use crate::files::{Outcome, sections};
 use std::test::Fail;
+use test_files::rows::{ON_TRUE, Row, TRUE, WEAK};
 
 // A second condition, at offset 7.
 #[test]

@@ -1,6 +1,7 @@
 // Counts at their limits, files cut short, and bytes left over.
-use crate::files::{ON_TRUE, Outcome, Row, TRUE, WEAK, reading, sections};
+use crate::files::{Outcome, reading, sections};
 use std::test::Fail;
+use test_files::rows::{ON_TRUE, Row, TRUE, WEAK};
 
 // X! of an atom held strongly: counts at 0, 12 and 14.
 const NEXT: [u8; 26] = [

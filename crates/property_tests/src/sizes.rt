@@ -1,6 +1,7 @@
 // The sizes of sequences, up to 240 and past it.
-use crate::files::{Outcome, Row, TRUE, WEAK, sections};
+use crate::files::{Outcome, sections};
 use std::test::Fail;
+use test_files::rows::{Row, TRUE, WEAK};
 
 // Sequences of the sizes 2, 4, 6, 10, 24, 240 and 0.
 const MADE: [Row; 7] = [

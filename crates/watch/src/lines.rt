@@ -7,6 +7,7 @@ use psl::entry::Formula;
 use std::alloc::{AllocError, Global};
 
 // The operator of a formula as PSL writes it.
+// Stays: no Display of Formula, which would be the formula and not its operator alone.
 fn operator_text(formula: Formula) -> &'static str
     ensures { result.now ≡ operator_of formula }
 {

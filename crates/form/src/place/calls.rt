@@ -1,5 +1,5 @@
 // What a form place is asked.
-#![tactic(auto, unfolding(crate::specs::Place::form_conditions, crate::specs::Place::form_sequences, crate::specs::Place::form_formulas, crate::specs::Place::form_root, crate::specs::Place::source))]
+#![tactic(auto, unfolding(crate::specs::Place::form_conditions, crate::specs::Place::form_sequences, crate::specs::Place::form_formulas, crate::specs::Place::form_root, crate::specs::Place::source), using(crate::proofs::Made::known))]
 
 ghost use Rattle.std.specs.Prelude.{◌≡◌, ◌<◌, [], ◌∷◌, length};
 ghost use Rattle.answer.specs.Questions.{Call};

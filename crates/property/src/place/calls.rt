@@ -46,6 +46,7 @@ impl Property {
         Ok(())
     }
 
+    // Stays: calls for each section, one line each over its table; a caller names the section, and with it the type of its entries.
     pub fn condition_count(&self) -> usize
         ensures value { result ≡ length (conditions_of self.now) }
         ensures low_bound { 1 ≤ result }

@@ -13,42 +13,39 @@ use Rattle.form.specs.Limits.{conditions_needed, sequences_needed, formulas_need
 use Rattle.form.proofs.MetPairs.{met_least}
 use Rattle.form.proofs.rewrite.rewrite.Goals as goal
 
-pub write_sequences-of_sequences-requires-clause-closed : goal.write_sequences-of_sequences-requires-clause-closed
-write_sequences-of_sequences-requires-clause-closed c =
-    let p = c.args.p.now in
-    subst (SequencesClosed p) (sym (ap (λ m. m.sequences) c.requires.met)) (met_least p).closed.sequences
-
-pub write_sequences-of_sequences-requires-clause-room : goal.write_sequences-of_sequences-requires-clause-room
+pub write_sequences-of_sequences-requires : goal.write_sequences-of_sequences-requires
 unfolding conditions_needed sequences_needed
-write_sequences-of_sequences-requires-clause-room c =
+write_sequences-of_sequences-requires c =
     let p = c.args.p.now in
     let n = 64 * length (sequences_of p) in
     let is = ap (λ m. m.sequences) c.requires.met in
     let more_c = ap (λ m. total (s.Condition 0) sequence_adds_conditions (sequences_of p) m n) is in
     let more_s = ap (λ m. total (s.Condition 0) sequence_adds_sequences (sequences_of p) m n) is in
     let begun = c.fresh-draft.ensures in
-    (omega (arith, begun.count_c, c.requires.room.conditions, more_c), omega (arith, begun.count_s, c.requires.room.sequences, more_s))
+    record {
+      carries = begun.carries;
+      closed = subst (SequencesClosed p) (sym is) (met_least p).closed.sequences;
+      room = (omega (arith, begun.count_c, c.requires.room.conditions, more_c), omega (arith, begun.count_s, c.requires.room.sequences, more_s));
+    }
 
-pub write_formulas-of_formulas-requires-clause-closed : goal.write_formulas-of_formulas-requires-clause-closed
-write_formulas-of_formulas-requires-clause-closed c =
-    let p = c.args.p.now in
-    let is_f = ap (λ m. m.formulas) c.requires.met in
-    let is_s = ap (λ m. m.sequences) c.requires.met in
-    subst (λ x. FormulasClosed p x c.args.met.now.sequences.cells) (sym is_f) (subst (FormulasClosed p (met p).formulas) (sym is_s) (met_least p).closed.formulas)
-
-pub write_formulas-of_formulas-requires-clause-room : goal.write_formulas-of_formulas-requires-clause-room
+pub write_formulas-of_formulas-requires : goal.write_formulas-of_formulas-requires
 unfolding conditions_needed formulas_needed
-write_formulas-of_formulas-requires-clause-room c =
+write_formulas-of_formulas-requires c =
     let p = c.args.p.now in
+    let m = 64 * length (formulas_of p) in
     let is_f = ap (λ m. m.formulas) c.requires.met in
     let is_s = ap (λ m. m.sequences) c.requires.met in
-    let m = 64 * length (formulas_of p) in
     let from_s = ap (λ x. total (s.Condition 0) sequence_adds_conditions (sequences_of p) x (64 * length (sequences_of p))) is_s in
     let more_c = ap (λ x. total (f.Strong 0) formula_adds_conditions (formulas_of p) x m) is_f in
     let more_f = ap (λ x. total (f.Strong 0) formula_adds_formulas (formulas_of p) x m) is_f in
     let begun = c.fresh-draft.ensures in
     let low = c.write_sequences-of_sequences.ensures in
-    (omega (arith, low.3, begun.count_c, c.requires.room.conditions, from_s, more_c), omega (arith, low.5, begun.count_f, c.requires.room.formulas, more_f))
+    record {
+      carries = low.1;
+      closed = subst (λ x. FormulasClosed p x c.args.met.now.sequences.cells) (sym is_f) (subst (FormulasClosed p (met p).formulas) (sym is_s) (met_least p).closed.formulas);
+      written = low.2;
+      room = (omega (arith, low.3, begun.count_c, c.requires.room.conditions, from_s, more_c), omega (arith, low.5, begun.count_f, c.requires.room.formulas, more_f));
+    }
 
 pub returns : goal.returns
 unfolding conditions_needed sequences_needed formulas_needed

@@ -11,15 +11,6 @@ use Rattle.form.proofs.Grown.{grows_none, sequence_as}
 use Rattle.form.proofs.SequenceImages.{wrote, ready_at, operand, image_is}
 use Rattle.form.proofs.write.write_sequence.Goals as goal
 
-pub tick-requires : goal.tick-requires
-tick-requires c =
-    let told = c.in-Condition.ensures in
-    record {
-      clock = (c.requires.carries c.args.pair.clock c.requires.clock).there;
-      under = (c.requires.carries c.in-Condition.b (ltb-true _ _ told.names)).there;
-      room = (omega (arith, c.requires.room.0, ap sequence_adds_conditions told.is), omega (arith, c.requires.room.1, ap sequence_adds_sequences told.is));
-    }
-
 pub returns-in-Condition : goal.returns-in-Condition
 returns-in-Condition c =
     let p = c.args.p.now in

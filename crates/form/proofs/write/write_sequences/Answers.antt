@@ -5,36 +5,30 @@ use Rattle.property.proofs.Held.{few_conditions}
 use Rattle.form.specs.Grid.{cells_of}
 use Rattle.form.specs.SequenceImages.{SequencesStand}
 use Rattle.form.proofs.Grown.{grows_none}
-use Rattle.form.proofs.SequenceSteps.{step_yes, step_no, ready_here, room_here}
+use Rattle.form.proofs.SequenceSteps.{step_yes, step_no, ready_here, room_here, inside}
 use Rattle.form.proofs.write.write_sequences.Goals as goal
 use Rattle.form.proofs.write.write_sequences.Goals.{then-get, else-get}
 
 pub loop-k-init : goal.loop-k-init
 loop-k-init c = (grows_none c.args.d.now, c.requires.carries, (λ i c l h m. let z : ⊥ = omega arith in absurd z), omega arith, omega arith, refl)
 
-pub write_sequence-r-requires-clause-clock : goal.write_sequence-r-requires-clause-clock
-write_sequence-r-requires-clause-clock c =
+pub write_sequence-r-requires : goal.write_sequence-r-requires
+write_sequence-r-requires c =
     let p = c.args.p.now in
+    let met = c.args.met.now.cells in
+    let inv = c.loop-k.invariant in
     let k = c.loop-k.k in
-    let marked = get_or_from_slice_get c.args.met.now.cells k _ false (rw c.of-pair.ensures.same at c.get.ensures) ∙ c.if-get.true in
-    let h : k < 64 * length (sequences_of p) = omega (arith, c.loop-k-test.true, c.sequence_count-n.ensures.value) in
-    rw c.of-pair.ensures.clock ((ready_here p c.args.met.now.cells _ _ _ k c.loop-k.invariant c.requires.closed marked h (few_conditions p)).0)
-
-pub write_sequence-r-requires-clause-ready : goal.write_sequence-r-requires-clause-ready
-write_sequence-r-requires-clause-ready c =
-    let p = c.args.p.now in
-    let k = c.loop-k.k in
-    let marked = get_or_from_slice_get c.args.met.now.cells k _ false (rw c.of-pair.ensures.same at c.get.ensures) ∙ c.if-get.true in
-    let h : k < 64 * length (sequences_of p) = omega (arith, c.loop-k-test.true, c.sequence_count-n.ensures.value) in
-    rw (c.of-pair.ensures.entry, c.of-pair.ensures.clock) ((ready_here p c.args.met.now.cells _ _ _ k c.loop-k.invariant c.requires.closed marked h (few_conditions p)).1)
-
-pub write_sequence-r-requires-clause-room : goal.write_sequence-r-requires-clause-room
-write_sequence-r-requires-clause-room c =
-    let p = c.args.p.now in
-    let k = c.loop-k.k in
-    let marked = get_or_from_slice_get c.args.met.now.cells k _ false (rw c.of-pair.ensures.same at c.get.ensures) ∙ c.if-get.true in
-    let h : k < 64 * length (sequences_of p) = omega (arith, c.loop-k-test.true, c.sequence_count-n.ensures.value) in
-    rw c.of-pair.ensures.entry (room_here p c.args.met.now.cells _ _ _ k c.loop-k.invariant _ h marked c.requires.room)
+    let n = length (sequences_of p) in
+    let marked = get_or_from_slice_get met k _ false (rw c.of-pair.ensures.same at c.get.ensures) ∙ c.if-get.true in
+    let h : k < 64 * n = omega (arith, c.loop-k-test.true, c.sequence_count-k-end.ensures.value) in
+    let ready = ready_here p met _ _ _ k inv c.requires.closed marked h (few_conditions p) in
+    record {
+      carries = inv.1;
+      there = rw c.of-pair.ensures.entry (inside k n h);
+      clock = rw c.of-pair.ensures.clock (ready.0);
+      ready = rw (c.of-pair.ensures.entry, c.of-pair.ensures.clock) (ready.1);
+      room = rw c.of-pair.ensures.entry (room_here p met _ _ _ k inv _ h marked c.requires.room);
+    }
 
 pub loop-k-preserved : goal.loop-k-preserved
 loop-k-preserved c =
@@ -43,7 +37,7 @@ loop-k-preserved c =
     let inv = c.loop-k.invariant in
     let k = c.loop-k.k in
     let is = get_or_from_slice_get met k _ false (rw c.of-pair.ensures.same at c.get.ensures) in
-    let room : k < length c.loop-k.places.cells = omega (arith, c.loop-k.places.long, c.loop-k-test.true, c.sequence_count-n.ensures.high_bound) in
+    let room : k < length c.loop-k.places.cells = omega (arith, c.loop-k.places.long, c.loop-k-test.true, c.sequence_count-k-end.ensures.high_bound) in
     elim c.if-get.branch [
       | then-get w ↦
           subst (λ d. SequencesStand p met c.args.d.now d c.if-get.places.cells (k + 1)) (sym w.d-is)

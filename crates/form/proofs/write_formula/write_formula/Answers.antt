@@ -17,24 +17,6 @@ until_same : {t u : Condition} {x y v w : Formula} → t ≡ u → x ≡ y → v
     → until (negated (conjoined (strong t) (negated x))) (conjoined (strong t) v) ≡ until (negated (conjoined (strong u) (negated y))) (conjoined (strong u) w)
 until_same {u = u} {x = x} {v = v} e g h = ap (λ t. until (negated (conjoined (strong t) (negated x))) (conjoined (strong t) v)) e ∙ ap₂ (λ x v. until (negated (conjoined (strong u) (negated x))) (conjoined (strong u) v)) g h
 
-pub add_strong-requires : goal.add_strong-requires
-add_strong-requires c =
-    let told = c.in-Strong.ensures in
-    record {
-      clock = (c.requires.carries c.args.pair.clock c.requires.clock).there;
-      under = (c.requires.carries c.in-Strong.b (ltb-true _ _ told.names)).there;
-      room = (omega (arith, c.requires.room.0, ap formula_adds_conditions told.is), omega (arith, c.requires.room.1, ap formula_adds_formulas told.is));
-    }
-
-pub add_weak-requires : goal.add_weak-requires
-add_weak-requires c =
-    let told = c.in-Weak.ensures in
-    record {
-      clock = (c.requires.carries c.args.pair.clock c.requires.clock).there;
-      under = (c.requires.carries c.in-Weak.b (ltb-true _ _ told.names)).there;
-      room = (omega (arith, c.requires.room.0, ap formula_adds_conditions told.is), omega (arith, c.requires.room.1, ap formula_adds_formulas told.is));
-    }
-
 pub add_formula-requires-in-Abort : goal.add_formula-requires-in-Abort
 add_formula-requires-in-Abort c =
     let told = c.in-Abort.ensures in

@@ -5,6 +5,7 @@ use Rattle.property.proofs.Held.{few_conditions}
 use Rattle.form.specs.Grid.{cells_of}
 use Rattle.form.specs.FormulaImages.{FormulasStand}
 use Rattle.form.proofs.Grown.{grows_none}
+use Rattle.form.proofs.SequenceSteps.{inside}
 use Rattle.form.proofs.FormulaSteps.{step_yes, step_no, ready_here, room_here}
 use Rattle.form.proofs.write_formula.write_formulas.Goals as goal
 use Rattle.form.proofs.write_formula.write_formulas.Goals.{then-get, else-get}
@@ -12,29 +13,24 @@ use Rattle.form.proofs.write_formula.write_formulas.Goals.{then-get, else-get}
 pub loop-k-init : goal.loop-k-init
 loop-k-init c = (grows_none c.args.d.now, c.requires.carries, (λ i c l h m. let z : ⊥ = omega arith in absurd z), omega arith, omega arith, c.requires.written, refl)
 
-pub write_formula-r-requires-clause-clock : goal.write_formula-r-requires-clause-clock
-write_formula-r-requires-clause-clock c =
+pub write_formula-r-requires : goal.write_formula-r-requires
+write_formula-r-requires c =
     let p = c.args.p.now in
+    let fm = c.args.met.now.formulas.cells in
+    let sm = c.args.met.now.sequences.cells in
+    let inv = c.loop-k.invariant in
     let k = c.loop-k.k in
-    let marked = get_or_from_slice_get c.args.met.now.formulas.cells k _ false (rw c.of-pair.ensures.same at c.get.ensures) ∙ c.if-get.true in
-    let h : k < 64 * length (formulas_of p) = omega (arith, c.loop-k-test.true, c.formula_count-n.ensures.value) in
-    rw c.of-pair.ensures.clock ((ready_here p c.args.met.now.formulas.cells c.args.met.now.sequences.cells _ _ _ _ k c.loop-k.invariant c.requires.closed marked h (few_conditions p)).0)
-
-pub write_formula-r-requires-clause-ready : goal.write_formula-r-requires-clause-ready
-write_formula-r-requires-clause-ready c =
-    let p = c.args.p.now in
-    let k = c.loop-k.k in
-    let marked = get_or_from_slice_get c.args.met.now.formulas.cells k _ false (rw c.of-pair.ensures.same at c.get.ensures) ∙ c.if-get.true in
-    let h : k < 64 * length (formulas_of p) = omega (arith, c.loop-k-test.true, c.formula_count-n.ensures.value) in
-    rw (c.of-pair.ensures.entry, c.of-pair.ensures.clock) ((ready_here p c.args.met.now.formulas.cells c.args.met.now.sequences.cells _ _ _ _ k c.loop-k.invariant c.requires.closed marked h (few_conditions p)).1)
-
-pub write_formula-r-requires-clause-room : goal.write_formula-r-requires-clause-room
-write_formula-r-requires-clause-room c =
-    let p = c.args.p.now in
-    let k = c.loop-k.k in
-    let marked = get_or_from_slice_get c.args.met.now.formulas.cells k _ false (rw c.of-pair.ensures.same at c.get.ensures) ∙ c.if-get.true in
-    let h : k < 64 * length (formulas_of p) = omega (arith, c.loop-k-test.true, c.formula_count-n.ensures.value) in
-    rw c.of-pair.ensures.entry (room_here p c.args.met.now.formulas.cells c.args.met.now.sequences.cells _ _ _ _ k c.loop-k.invariant _ h marked c.requires.room)
+    let n = length (formulas_of p) in
+    let marked = get_or_from_slice_get fm k _ false (rw c.of-pair.ensures.same at c.get.ensures) ∙ c.if-get.true in
+    let h : k < 64 * n = omega (arith, c.loop-k-test.true, c.formula_count-k-end.ensures.value) in
+    let ready = ready_here p fm sm _ _ _ _ k inv c.requires.closed marked h (few_conditions p) in
+    record {
+      carries = inv.1;
+      there = rw c.of-pair.ensures.entry (inside k n h);
+      clock = rw c.of-pair.ensures.clock (ready.0);
+      ready = rw (c.of-pair.ensures.entry, c.of-pair.ensures.clock) (ready.1);
+      room = rw c.of-pair.ensures.entry (room_here p fm sm _ _ _ _ k inv _ h marked c.requires.room);
+    }
 
 pub loop-k-preserved : goal.loop-k-preserved
 loop-k-preserved c =
@@ -45,7 +41,7 @@ loop-k-preserved c =
     let inv = c.loop-k.invariant in
     let k = c.loop-k.k in
     let is = get_or_from_slice_get fm k _ false (rw c.of-pair.ensures.same at c.get.ensures) in
-    let room : k < length c.loop-k.places.cells = omega (arith, c.loop-k.places.long, c.loop-k-test.true, c.formula_count-n.ensures.high_bound) in
+    let room : k < length c.loop-k.places.cells = omega (arith, c.loop-k.places.long, c.loop-k-test.true, c.formula_count-k-end.ensures.high_bound) in
     elim c.if-get.branch [
       | then-get w ↦
           subst (λ d. FormulasStand p fm sm c.args.d.now d sp c.if-get.places.cells (k + 1)) (sym w.d-is)

@@ -1,4 +1,4 @@
-use Rattle.std.proofs.Common.{◌≡◌, ◌<◌, ◌≤◌, [], ◌∷◌, ◌++◌, length, refl, sym, ap, ◌∙◌, subst, arith, rules}
+use Rattle.std.proofs.Common.{◌≡◌, ◌≤◌, [], ◌∷◌, ◌++◌, length, refl, sym, ap, ◌∙◌, subst, rules}
 use mathlib.Core.Option.{none, some}
 use Rattle.std.proofs.lemmas.Result.{err_from_is_err_and}
 use Rattle.std.proofs.lemmas.Bool.{le-leb}
@@ -10,7 +10,7 @@ use Rattle.file.specs.Operands.{sequence_names}
 use Rattle.file.specs.Rules.{about_names, about_entry}
 use Rattle.file.specs.Sizes.{sizes, size_over}
 use Rattle.file.proofs.Entries.{names_no}
-use Rattle.file.proofs.Sizes.{length_sizes, as_many_sizes, sizes_more, small_more}
+use Rattle.file.proofs.Sizes.{length_sizes}
 use Rattle.file.proofs.sequences.SequencesFilling.take_entry.Goals as goal
 
 pub returns-in_err-entry : goal.returns-in_err-entry
@@ -21,23 +21,6 @@ returns-in_err-entry c =
     let counted : c.len.result ≡ length (sizes es) = c.len.ensures.value ∙ sym (length_sizes es) in
     rw (p.1, p.2) (names_no (sequence_spelled c.args.raw) (sequence_names t.conditions (length (sizes es))) _ c.in_err-entry.field-0.0
     (subst (λ k. first_no (about_entry (sequence_spelled c.args.raw) (about_names (sequence_names t.conditions k))) ≡ some c.in_err-entry.field-0.0) counted c.in_err-entry.ensures))
-
-pub unwrap-requires-2 : goal.unwrap-requires-2
-unwrap-requires-2 c =
-    let t = c.args.self.now in
-    let room : length (rows_of t.sizes) < 64 = omega (arith, as_many_sizes t, c.requires) in
-    search rules
-
-pub invariant_of-self : goal.invariant_of-self
-invariant_of-self c =
-    let t = c.args.self.now in
-    let room : length (rows_of t.sizes) < 64 = omega (arith, as_many_sizes t, c.requires) in
-    let more : rows_of c.push.new.self ≡ rows_of t.entries ++ c.in_ok-entry.entry ∷ [] = search rules in
-    let more_sizes : rows_of c.push-2.new.self ≡ rows_of t.sizes ++ c.size_after-size.result ∷ [] = search rules in
-    record {
-      measured = rw (more, more_sizes) (sizes_more (rows_of t.entries) (rows_of t.sizes) _ _ t.measured c.size_after-size.ensures);
-      small = rw more_sizes (small_more (rows_of t.sizes) _ c.if-size-gt240.false t.small);
-    }
 
 pub returns : goal.returns
 returns c =

@@ -1,12 +1,9 @@
-use Rattle.form.proofs.Made.{rewritten_made, from_rewritten}
+use Rattle.form.proofs.Made.{rewritten_made}
 use Rattle.form.proofs.MetPairs.{met_least}
 use Rattle.form.proofs.place.Form.remove_clocks.Goals as goal
 
 pub invariant_of-self : goal.invariant_of-self
 invariant_of-self c = record { made = rewritten_made c.args.property.now _ _ c.in_ok-form_of.ensures.rewritten }
-
-pub returns-clause-made : goal.returns-clause-made
-returns-clause-made c = (c.in_ok-form_of.ensures.no_no, from_rewritten _ c.in_ok-form_of.ensures.rewritten)
 
 pub returns-clause-met : goal.returns-clause-met
 returns-clause-met c = met_least c.args.property.now

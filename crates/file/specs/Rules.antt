@@ -1,5 +1,5 @@
 -- The questions put to an entry: what its section asks of it, over the entries before it.
-use Rattle.std.specs.Prelude.{◌≡◌, ℕ, Bool, false, ◌||◌, List, [], ◌∷◌, ◌++◌, length, Some, None, Ok, Err, Option, Result, nat_le, nat_lt}
+use Rattle.std.specs.Prelude.{◌≡◌, ℕ, Bool, false, ◌||◌, List, [], ◌∷◌, length, Some, None, Ok, Err, Option, Result, nat_le, nat_lt}
 use Rattle.std.proofs.Math.Option.{none, some}
 use Rattle.answer.specs.Questions.{Question, ◌otherwise◌, first_no}
 use Rattle.psl.specs.declared.entry.Condition.{Condition}
@@ -17,22 +17,22 @@ pub record Rules (E : Type 0) : Type 0 where
   pub spelled : Raw → Option E
   pub about : List E → E → List (Question Reason)
 
--- an entry names what it may
-abbrev pub about_names : {E : Type 0} → (E → Bool) → E → List (Question Reason)
-about_names names e = (names e otherwise OperandNamesNothing) ∷ []
-
 -- condition i names what it may, and the first is true
 abbrev pub about_condition : ℕ → Condition → List (Question Reason)
-about_condition i e = about_names (condition_names i) e ++ (((nat_lt 0 i || is_true e) otherwise FirstNotTrue) ∷ [])
+about_condition i e = (condition_names i e otherwise OperandNamesNothing) ∷ ((nat_lt 0 i || is_true e) otherwise FirstNotTrue) ∷ []
 
 -- a sequence after sequences of these sizes names what it may, and its size is at most 240
 abbrev pub about_sequence : ℕ → List ℕ → Sequence → List (Question Reason)
 about_sequence n before e =
-    about_names (sequence_names n (length before)) e ++ ((nat_le (size_over before e) 240 otherwise SequenceTooLarge) ∷ [])
+    (sequence_names n (length before) e otherwise OperandNamesNothing) ∷ (nat_le (size_over before e) 240 otherwise SequenceTooLarge) ∷ []
 
 -- formula i names what it may
 abbrev pub about_formula : ℕ → ℕ → ℕ → Formula → List (Question Reason)
-about_formula n m i = about_names (formula_names n m i)
+about_formula n m i e = (formula_names n m i e otherwise OperandNamesNothing) ∷ []
+
+-- the first question of each: an entry names what it may
+abbrev pub about_names : {E : Type 0} → (E → Bool) → E → List (Question Reason)
+about_names names e = (names e otherwise OperandNamesNothing) ∷ []
 
 -- the rules of the three sections, after n conditions and m sequences
 abbrev pub condition_rules : Rules Condition

@@ -27,13 +27,12 @@ pub(crate) fn fill<F: Filling>(
     part: &[u8],
     section: Section,
     at: usize,
-    table: F,
+    mut table: F,
 ) -> Result<F, Refusal>
     requires room { 5 * length (F.Filling.filled table) + length part.now ≤ 320 }
     requires near { at ≤ 1000 }
     ensures { Fills F.Filling.rules F.Filling.filled section at table (raws part.now) result }
 {
-    let mut table = table;
     let mut rest = part;
     let mut offset = at;
     // Stays: a rule of the project has an entry read by a pattern that names its five bytes, with the later entries as the rest.

@@ -8,10 +8,7 @@ use std::fs;
 
 fn main(rt: HostRuntime) -> anyhow::Result<()> {
     let heap = rt.alloc();
-    let bytes = match fs::read(&rt, "property.bin") {
-        Ok(bytes) => bytes,
-        Err(_) => Vec::new(heap),
-    };
+    let bytes = fs::read(&rt, "property.bin").unwrap_or(Vec::new(heap));
     let line = file_line(heap, &bytes)?;
     println!(rt; "{line}")?;
     Ok(())

@@ -8,6 +8,7 @@ ghost use Rattle.form.specs.Draft.{conditions_in, sequences_in, formulas_in, Bui
 use crate::draft::Draft;
 use psl::entry::{Condition, Formula};
 
+// Stays: that a number names an entry is asked at each call, since it speaks of the draft of that moment, and a number can't carry that.
 impl Draft {
     // (not c)! U (c and b)!
     pub(crate) fn add_strong(&mut self, c: u16, b: u16) -> u16

@@ -15,6 +15,7 @@ use property::place::Property;
 use psl::entry::Sequence;
 
 // Adds the image of a pair.
+// Stays: property and draft are two, here and below, since the draft changes at each step, and a struct would owe anew each time that it carries the property.
 #[tactic(auto, using(property::proofs::Held::few))]
 pub(crate) fn write_sequence(p: &Property, d: &mut Draft, places: &Grid<u16>, pair: Pair) -> u16
     requires carries { Carries p.now d.old }

@@ -19,6 +19,7 @@ pub struct Runs<'a, K> {
 
 impl<'a, K: Kind> Runs<'a, K> {
     // An empty record.
+    // Stays beside the flat record's `new` and `resume`: each speaks of its own rows, and what is alike of records is their trait.
     pub fn new(rows: &'a mut [Run<K>]) -> Runs<'a, K>
         ensures made { run_content K.eq result.used result.rows.now ≡ run_content K.eq 0 rows.old }
     {

@@ -1,4 +1,5 @@
 // A table with room for N rows, the first of which are in use.
+// Stays an array with a count, once for all tables: the kit's ArrayVec is not Copy, and a place is copied without fail.
 ghost use Rattle.std.specs.Prelude.{◌≡◌, ◌+◌, ◌<◌, ◌≤◌, ◌++◌, [], ◌∷◌, ⊤, length, take, MatchResult};
 
 use std::alloc::AllocError;

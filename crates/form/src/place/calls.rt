@@ -56,6 +56,8 @@ impl Form {
         Ok(())
     }
 
+    // Stays: a call for each section, one line over its table; a caller names the section, and with it the type of its entries.
+
     // All conditions, each of which names what it may.
     pub fn conditions(&self) -> &[Condition]
         ensures value { result.now ≡ form_conditions self.now }

@@ -17,6 +17,7 @@ pub struct Automata {
 }
 
 // Whether the sequences that an entry names have numbers below `n`.
+// Stays beside the question that a property file is asked: that one asks of conditions too, of which a table that is followed may name any.
 fn is_lower(n: usize, entry: Sequence) -> bool
     ensures value { result ≡ lower_of n entry }
 {

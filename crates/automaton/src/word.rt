@@ -51,7 +51,7 @@ impl<'a> Letter<'a> {
     }
 
     // Whether its mirror does.
-    // Stays: the name says which row is asked, and one method that takes the row would leave that to each caller.
+    // Stays: the name says which row is asked; one method that takes the row leaves that to each caller, and a letter turned round is made to be asked once.
     pub fn mirror_satisfies(self, name: u16) -> bool
         ensures value { result ≡ tells_of self.entry.other.now name }
     {

@@ -24,6 +24,7 @@ pub fn put(row: &mut [u8], n: usize, flag: bool)
 }
 
 // The byte whose bits all are what `flag` says.
+// Stays: std has no conversion that makes all bits alike, and arithmetic on the flag is no plainer.
 fn uniform(flag: bool) -> u8
     ensures items { (k : ℕ) → bit result k ≡ (nat_lt k 8 && flag) }
 {

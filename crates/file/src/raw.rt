@@ -22,17 +22,13 @@ impl Raw {
     pub(crate) fn unused<E: Drop>(self, e: E) -> Option<E>
         ensures { result ≡ without_operands self.a self.b e }
     {
-        if self.a == 0 && self.b == 0 {
-            Some(e)
-        } else {
-            None
-        }
+        (self.a == 0 && self.b == 0).then_some(e)
     }
 
     // The entry `e`, if operand B, which it does not use, is 0.
     pub(crate) fn unused_b<E: Drop>(self, e: E) -> Option<E>
         ensures { result ≡ without_b self.b e }
     {
-        if self.b == 0 { Some(e) } else { None }
+        (self.b == 0).then_some(e)
     }
 }

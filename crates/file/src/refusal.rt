@@ -22,7 +22,7 @@ impl Reason {
     pub fn number(self) -> u8
         ensures { result ≡ reason_number self }
     {
-        self as u8
+        self as u8 // 1 to 8
     }
 }
 
@@ -38,7 +38,7 @@ impl Section {
     pub fn number(self) -> u8
         ensures { result ≡ section_number self }
     {
-        self as u8
+        self as u8 // 1 to 3
     }
 }
 

@@ -11,7 +11,7 @@ pub struct Counts {
 }
 
 // The entries of a property, and beside each sequence its size.
-// Stays: a rule of the project lends the sequences as a slice of entries, so their sizes stand in a table of their own.
+// Stays: `Property::sequences` lends the sequences as a slice of entries, so their sizes stand in a table of their own.
 #[derive(Clone, Copy)]
 pub struct Tables {
     pub conditions: Table<Condition, 64>,

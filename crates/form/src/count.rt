@@ -102,12 +102,17 @@ pub(crate) fn count_added<E: Adds>(entries: &[E], met: &Grid<bool>) -> Added
         conditions: 0,
         entries: 0,
     };
-    for k in 0..64 * entries.len() {
-        let pair = Pair::of(k);
-        if met.get(pair) {
-            let more = entries[pair.entry as usize].adds();
-            all.conditions += more.conditions;
-            all.entries += more.entries;
+    for (i, entry) in entries.iter().enumerate() {
+        let more = entry.adds();
+        for clock in 0..64 {
+            let pair = Pair {
+                entry: i as u16,
+                clock,
+            };
+            if met.get(pair) {
+                all.conditions += more.conditions;
+                all.entries += more.entries;
+            }
         }
     }
     all

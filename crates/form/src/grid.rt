@@ -1,25 +1,13 @@
 // Values for the pairs of an entry and a clock.
-ghost use Rattle.std.specs.Prelude.{◌≡◌, ℕ, ⊤, length};
+ghost use Rattle.std.specs.Prelude.{◌≡◌, ℕ, length};
 
 use crate::pair::Pair;
-use std::alloc::AllocError;
 
 // A value for each pair.
+#[derive(Drop)]
 pub(crate) struct Grid<T> {
     cells: [T; 4096],
     ghost long: { length cells ≡ 4096 },
-}
-
-impl<T: Copy> Copy for Grid<T> {}
-
-impl<T: Copy> Clone for Grid<T> {
-    ghost is_clone = { λ s r. r ≡ s };
-
-    ghost is_infallible = { λ _. ⊤ };
-
-    fn clone(&self) -> Result<Grid<T>, AllocError> {
-        Ok(*self)
-    }
 }
 
 impl<T: Copy> Grid<T> {
@@ -53,7 +41,7 @@ impl<T: Copy> Grid<T> {
 }
 
 // The pairs of formulas and those of sequences that are met.
-#[derive(Clone, Copy)]
+#[derive(Drop)]
 pub(crate) struct Marks {
     pub(crate) formulas: Grid<bool>,
     pub(crate) sequences: Grid<bool>,

@@ -39,7 +39,7 @@ fn mark_formula(p: &Property, met: &mut Marks, pair: Pair)
 }
 
 // Marks, with each marked pair of a formula, those of its parts.
-// Stays: a loop beside that over sequences, since it writes both grids and that one writes one; a closure for the difference is no plainer.
+// Stays: a loop beside that over sequences, since it writes both grids and that one writes one; a closure for the difference would capture both, and its contract would say the loop's invariant again.
 pub(crate) fn mark_formulas(p: &Property, met: &mut Marks)
     ensures { marks_of met.new ≡ meet_formulas (formulas_of p.now) (64 * length (formulas_of p.now)) (marks_of met.old) }
 {

@@ -53,7 +53,7 @@ pub(crate) fn write_formula(
 }
 
 // Adds the image of each marked pair of a formula and a clock.
-// Stays: a loop beside that over sequences, since it reads their places while it makes its own; a closure for the difference is no plainer.
+// Stays: a loop beside that over sequences, since it reads their places while it makes its own; a closure for the difference would capture both, and its contract would say the loop's invariant again.
 pub(crate) fn write_formulas(
     p: &Property,
     met: &Marks,

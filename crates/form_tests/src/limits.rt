@@ -4,6 +4,7 @@ use std::alloc::{AllocError, Global};
 use std::test::Fail;
 use test_files::rows::{ON_TRUE, Row, TRUE, WEAK};
 
+// Stays: tables of tests are short, so the remainder is the number, and the error of a `try_from` would have no place in the callers' results.
 fn number(n: usize) -> u8 {
     (n % 256) as u8
 }

@@ -2,7 +2,7 @@
 ghost use Rattle.std.specs.Prelude.{◌≡◌};
 ghost use Rattle.psl.specs.Letter.{mirror, satisfies};
 ghost use Rattle.psl.specs.Syntax.{atom as atom_of};
-ghost use Rattle.letter.specs.Full.{full, means};
+ghost use Rattle.letter.specs.Full.{full, means, same_full};
 
 use crate::kind::Kind;
 
@@ -14,7 +14,8 @@ pub enum Full<L> {
     Ordinary(L),
 }
 
-// What kind of full letter it is. Stays: a letter goes into a record as a tag and an ordinary letter, by a rule of the project.
+// What kind of full letter it is.
+// Stays: a letter goes into a record as a tag and an ordinary letter, as a bench has them, by a rule of the project.
 #[derive(Clone, Copy, Debug, PartialEq, Eq)]
 pub enum Tag {
     Top,
@@ -32,6 +33,13 @@ impl<K: Kind> Full<K> {
             Tag::Bottom => Full::Bottom,
             Tag::Ordinary => Full::Ordinary(letter),
         }
+    }
+
+    // Whether two letters are the same, as `==` tells: two tops are, and two bottoms.
+    pub fn same(&self, other: &Full<K>) -> bool
+        ensures value { result ≡ same_full K.eq self.now other.now }
+    {
+        self == other
     }
 
     // Whether the letter satisfies the atom; no ordinary letter satisfies one from 32 on.

@@ -24,6 +24,8 @@ pub(crate) struct Counted {
     pub(crate) letters: usize,
 }
 
+// Stays, rows and how many are in use, here and below: the caller's memory, over which a record keeps no invariant, by rules of the project.
+
 // How many letters the rows are, after `sum` letters that end in `before`, if adds can have left them.
 fn tally<K: Kind>(rows: &[Run<K>], before: Option<Full<K>>, sum: usize) -> Option<usize>
     requires few { sum ≤ 512 }

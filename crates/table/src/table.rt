@@ -11,6 +11,7 @@ pub struct Table<E, const N: usize> {
     ghost long: { length rows ≡ N },
 }
 
+// Stays by hand: a derive of `Clone` is refused for a generic type with a ghost field.
 impl<E: Copy, const N: usize> Copy for Table<E, N> {}
 
 impl<E: Copy, const N: usize> Clone for Table<E, N> {

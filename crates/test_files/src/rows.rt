@@ -14,6 +14,7 @@ pub const ON_TRUE: Row = [0, 0, 0, 0, 0];
 
 pub const WEAK: Row = [1, 0, 0, 0, 0];
 
+// Stays, the count by a remainder: tables of tests are short, and the error of a `try_from` would have no place in the result.
 fn section(file: &mut Vec<u8>, rows: &[Row]) -> Result<(), AllocError>
     ensures { IfOk result (λ _. file.new.items ≡ file.old.items ++ section_of rows.now) }
 {

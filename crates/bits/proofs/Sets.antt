@@ -1,8 +1,10 @@
 -- Sets in words of any width: one word set, all words made alike, nothing past the words.
-use Rattle.std.proofs.Common.{◌≡◌, ℕ, zero, suc, ◌+◌, ◌*◌, ◌/◌, ◌%◌, ◌<◌, ◌≤◌, Bool, false, ◌&&◌, eqb, ltb, ◌⊎◌, List, length, get_or, set, replicate, sym, refl, ap, ◌∙◌, ap₂, inl, inr, le_trans, arith, get_or-set_other, get_or-set_same, below_more}
+use Rattle.std.proofs.Common.{◌≡◌, ℕ, zero, suc, ◌+◌, ◌*◌, ◌/◌, ◌%◌, ◌<◌, ◌≤◌, Bool, false, ◌&&◌, eqb, ltb, ◌⊎◌, List, length, get_or, set, replicate, sym, refl, ap, ◌∙◌, ap₂, inl, inr, le_trans, arith, get_or-set_other, get_or-set_same, subst}
 use Rattle.std.proofs.lemmas.Nat.{div-add-mod', div_below, le-div}
 use Rattle.std.proofs.lemmas.Bool.{eq-eqb, ne_eqb, lt-ltb, le-ltb, cases_eq, cases_lt}
 use Rattle.std.proofs.lemmas.List.{get_or_past}
+use Rattle.std.specs.Array.{IsFromFnResultFrom}
+use denote.Param.Members.{Mut, Called}
 use Rattle.bits.specs.Words.{bit, in_words, EachMadeBy}
 use Rattle.bits.proofs.Bitwise.{bit_zero}
 
@@ -15,11 +17,19 @@ MadeBy R n xs ys zs =
 abbrev pub Written : (ℕ → ℕ) → ℕ → List ℕ → Type 0
 Written f n ws = (q : ℕ) → q < n → get_or ws q 0 ≡ f q
 
-pub written_more : (f : ℕ → ℕ) (ws : List ℕ) (n v : ℕ) → n < length ws → v ≡ f n → Written f n ws → Written f (n + 1) (set ws n v)
-written_more f ws n v h e is =
-    below_more (λ (q : ℕ). get_or (set ws n v) q 0 ≡ f q) n
-    (λ q k. get_or-set_other ws n q v 0 (λ e. omega arith) ∙ is q k)
-    (get_or-set_same ws n v 0 h ∙ e)
+-- a closure that each call leaves as it was, and that gives f of each number, has written f
+pub written_by_calls : {F : Type 0} (g : Mut F (ℕ × Unit {0}) ℕ) (p : F) (f : ℕ → ℕ)
+    → ((i y : ℕ) (q : F) → Called g p (i, tt {0}) y q → (y ≡ f i) × (q ≡ p)) → (ws : List ℕ) (n : ℕ) → IsFromFnResultFrom g p ws 0 n → Written f n ws
+written_by_calls {F} g p f step ws n calls q h = go 0 n p refl calls q (omega arith) (omega arith)
+  where
+    go : (i n : ℕ) (o : F) → o ≡ p → IsFromFnResultFrom g o ws i n → (k : ℕ) → i ≤ k → k < i + n → get_or ws k 0 ≡ f k
+    go i zero o e c k lo hi = let z : ⊥ = omega arith in absurd z
+    go i (suc n) o e (r, y, is, call, more) k lo hi =
+        let s = step i y r (subst (λ o. Called g o (i, tt {0}) y r) e call) in
+        elim (cases_eq k i) [
+          | inl j ↦ ap (λ (m : ℕ). get_or ws m 0) j ∙ is.1 0 ∙ s.0 ∙ ap f (sym j)
+          | inr j ↦ go (i + 1) n r s.1 more k (omega arith) (omega arith)
+        ]
 
 past : (ws : List ℕ) (k n : ℕ) → length ws ≤ k → bit (get_or ws k 0) n ≡ false
 past ws k n h = ap (λ (z : ℕ). bit z n) (get_or_past ws k 0 h) ∙ bit_zero n

@@ -4,6 +4,7 @@ ghost use Rattle.bits.specs.Member.{member, count_below};
 ghost use Rattle.bits.specs.Words.{EachMadeBy};
 
 use crate::word;
+use std::array;
 
 // The number of places of a set: 512 letters, and the end behind them, fit.
 pub const PLACES: usize = 576;
@@ -25,11 +26,7 @@ fn lowest(n: usize) -> u64
 fn below(n: usize) -> Places
     ensures items { (k : ℕ) → member result k ≡ (nat_lt k 576 && nat_lt k n) }
 {
-    let mut words = [0; 9];
-    // Stays: nothing is known of the words after `iter_mut().enumerate()`, so the proof doesn't close over it.
-    for i in 0..9 {
-        words[i] = lowest(n.saturating_sub(64 * i));
-    }
+    let words = array::from_fn(move |i| lowest(n.saturating_sub(64 * i)));
     Places { words }
 }
 

@@ -13,7 +13,8 @@ pub(crate) struct State<'a> {
     ghost there: { number < size part },
 }
 
-// A state of a sequence that has the states of two: one of the first, or one of the second (no Result, since neither is a failure).
+// A state of a sequence that has the states of two: one of the first, or one of the second.
+// Stays an enum of its own: a Result would call one of the two a failure.
 enum Half<'a> {
     First(State<'a>),
     Second(State<'a>),

@@ -13,6 +13,7 @@ pub fn told(row: &[u8], n: usize) -> bool
 }
 
 // Makes flag n what `flag` says; a flag past the bytes changes nothing.
+// Stays bytes, whose length a contract tells, here and below: a rule of the project has the caller lend them.
 pub fn put(row: &mut [u8], n: usize, flag: bool)
     ensures items { n / 8 < length row.old → (j : ℕ) → flagged row.new j ≡ (if nat_eq j n then flag else flagged row.old j) }
     ensures same { length row.old ≤ n / 8 → row.new ≡ row.old }

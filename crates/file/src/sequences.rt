@@ -51,6 +51,7 @@ impl Entry for Sequence {
 }
 
 // The sequences so far with their sizes, none above 240, after `conditions` conditions.
+// Stays two tables, as in `Tables`, which they become.
 #[derive(Clone, Copy)]
 pub(crate) struct Sequences {
     conditions: usize,

@@ -35,6 +35,7 @@ fn mark_sequence(p: &Property, met: &mut Grid<bool>, pair: Pair)
 pub(crate) fn mark_sequences(p: &Property, met: &mut Grid<bool>)
     ensures { cells_of met.new ≡ meet_sequences (sequences_of p.now) (64 * length (sequences_of p.now)) (cells_of met.old) }
 {
+    // Stays a loop over keys, whose order is that of the definitions: two loops, over entries and clocks, would state twice what is marked so far.
     for k in (0..64 * p.sequence_count()).rev() {
         let pair = Pair::of(k);
         if met.get(pair) {

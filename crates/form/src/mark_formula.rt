@@ -43,6 +43,7 @@ fn mark_formula(p: &Property, met: &mut Marks, pair: Pair)
 pub(crate) fn mark_formulas(p: &Property, met: &mut Marks)
     ensures { marks_of met.new ≡ meet_formulas (formulas_of p.now) (64 * length (formulas_of p.now)) (marks_of met.old) }
 {
+    // Stays a loop over keys, whose order is that of the definitions: two loops, over entries and clocks, would state twice what is marked so far.
     for k in (0..64 * p.formula_count()).rev() {
         let pair = Pair::of(k);
         if met.formulas.get(pair) {

@@ -58,6 +58,7 @@ pub(crate) fn write_sequences(p: &Property, met: &Grid<bool>, d: &mut Draft) -> 
     ensures { SequencesStand p.now (cells_of met.now) d.old d.new (cells_of result) (64 * length (sequences_of p.now)) }
 {
     let mut places = Grid::new(0);
+    // Stays a loop over keys, whose order is that of the definitions: two loops, over entries and clocks, would state twice what is written so far.
     for k in 0..64 * p.sequence_count() {
         let pair = Pair::of(k);
         if met.get(pair) {

@@ -67,6 +67,7 @@ pub(crate) fn write_formulas(
     ensures { FormulasStand p.now (cells_of met.now.formulas) (cells_of met.now.sequences) d.old d.new (cells_of sequences.now) (cells_of result) (64 * length (formulas_of p.now)) }
 {
     let mut places = Grid::new(0);
+    // Stays a loop over keys, whose order is that of the definitions: two loops, over entries and clocks, would state twice what is written so far.
     for k in 0..64 * p.formula_count() {
         let pair = Pair::of(k);
         if met.formulas.get(pair) {

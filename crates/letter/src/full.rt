@@ -15,7 +15,7 @@ pub enum Full<L> {
 }
 
 // What kind of full letter it is.
-// Stays: a letter goes into a record as a tag and an ordinary letter, as a bench has them, by a rule of the project.
+// Stays, here and in `add` of records: a letter goes into a record as a tag and an ordinary letter, as a bench has them, by a rule of the project.
 #[derive(Clone, Copy, Debug, PartialEq, Eq)]
 pub enum Tag {
     Top,

@@ -18,6 +18,7 @@ pub struct Flat<'a, K> {
 
 impl<'a, K: Kind> Flat<'a, K> {
     // An empty record.
+    // Stays beside the run record's `new` and `resume`: each speaks of its own rows, and what is alike of records is their trait.
     pub fn new(rows: &'a mut [Full<K>]) -> Flat<'a, K>
         ensures made { flat_content result.count result.rows.now ≡ flat_content 0 rows.old }
     {

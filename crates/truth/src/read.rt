@@ -18,8 +18,8 @@ use record::record::Record;
 pub const TABLE: usize = 16896;
 
 // Writes the row of a letter, and its mirror's: first what they tell of the condition false, then condition after condition.
-// Stays two slices, `own` and `other`, here and below: they are read crosswise at each flag, so a struct of both would be taken apart at once.
-// They stay bytes, whose length a contract tells, since a rule of the project has the caller lend them.
+// Stays two slices, `own` and `other`, here and below: both are written, crosswise at each flag, so a struct of both would be taken apart at once.
+// Stays bytes, whose length a contract tells, since a rule of the project has the caller lend them.
 fn write_letter<K: Kind>(letter: &Full<K>, entries: &[Condition], own: &mut [u8], other: &mut [u8])
     requires few { length entries.now ≤ 256 }
     requires len { length own.old ≡ 33 }

@@ -31,6 +31,11 @@ written_by_calls {F} g p f step ws n calls q h = go 0 n p refl calls q (omega ar
           | inr j ↦ go (i + 1) n r s.1 more k (omega arith) (omega arith)
         ]
 
+-- the words of a set that are each made of those of two sets, with nothing behind them
+pub made_by_each : (f : ℕ → ℕ → ℕ) (xs ys zs : List ℕ) → length xs ≤ 9 → length zs ≤ 9
+    → EachMadeBy (λ x y z. z ≡ f x y) xs ys zs → MadeBy (λ x y z. z ≡ f x y) 9 xs ys zs
+made_by_each f xs ys zs hx hz made = (made, λ k h. get_or_past zs k 0 (omega arith) ∙ sym (get_or_past xs k 0 (omega arith)))
+
 past : (ws : List ℕ) (k n : ℕ) → length ws ≤ k → bit (get_or ws k 0) n ≡ false
 past ws k n h = ap (λ (z : ℕ). bit z n) (get_or_past ws k 0 h) ∙ bit_zero n
 
@@ -73,16 +78,16 @@ module _ (w : ℕ) where
 
   -- words made word by word are made bit by bit, if nothing is made of nothing
   pub in_each : (f : ℕ → ℕ → ℕ) (op : Bool → Bool → Bool) → ((a b n : ℕ) → bit (f a b) n ≡ op (bit a n) (bit b n)) → op false false ≡ false
-      → (xs ys zs : List ℕ) → length xs ≤ 9 → length ys ≤ 9 → length zs ≤ 9 → EachMadeBy (λ x y z. z ≡ f x y) xs ys zs
+      → (xs ys zs : List ℕ) (n : ℕ) → length xs ≤ n → length ys ≤ n → MadeBy (λ x y z. z ≡ f x y) n xs ys zs
       → (j : ℕ) → in_words w zs j ≡ op (in_words w xs j) (in_words w ys j)
   unfolding in_words
-  in_each f op bits none xs ys zs hx hy hz made j = go (cases_lt (j / w) 9)
+  in_each f op bits none xs ys zs n hx hy made j = go (cases_lt (j / w) n)
     where
-      go : (j / w < 9) ⊎ (9 ≤ j / w) → bit (get_or zs (j / w) 0) (j % w) ≡ op (bit (get_or xs (j / w) 0) (j % w)) (bit (get_or ys (j / w) 0) (j % w))
-      go (inl h) = ap (λ (z : ℕ). bit z (j % w)) (made (j / w) h) ∙ bits (get_or xs (j / w) 0) (get_or ys (j / w) 0) (j % w)
+      go : (j / w < n) ⊎ (n ≤ j / w) → bit (get_or zs (j / w) 0) (j % w) ≡ op (bit (get_or xs (j / w) 0) (j % w)) (bit (get_or ys (j / w) 0) (j % w))
+      go (inl h) = ap (λ (z : ℕ). bit z (j % w)) (made.0 (j / w) h) ∙ bits (get_or xs (j / w) 0) (get_or ys (j / w) 0) (j % w)
       go (inr h) =
-          past zs (j / w) (j % w) (omega arith) ∙ sym none
-          ∙ ap₂ op (sym (past xs (j / w) (j % w) (omega arith))) (sym (past ys (j / w) (j % w) (omega arith)))
+          let x = past xs (j / w) (j % w) (omega arith) in
+          ap (λ (z : ℕ). bit z (j % w)) (made.1 (j / w) h) ∙ x ∙ sym none ∙ ap₂ op (sym x) (sym (past ys (j / w) (j % w) (omega arith)))
 
   -- n words, each made by its number
   pub in_written : (f : ℕ → ℕ) (ws : List ℕ) (n : ℕ) → 0 < w → length ws ≤ n → Written f n ws

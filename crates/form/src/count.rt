@@ -10,7 +10,6 @@ ghost use Rattle.form.specs.Limits.{limits, conditions_needed, sequences_needed,
 ghost use Rattle.form.specs.Met.{met as met_of};
 
 use crate::grid::{Grid, Marks};
-use crate::pair::Pair;
 use crate::refusal::Refusal;
 use file::tables::Counts;
 use property::place::Property;
@@ -105,11 +104,7 @@ pub(crate) fn count_added<E: Adds>(entries: &[E], met: &Grid<bool>) -> Added
     for (i, entry) in entries.iter().enumerate() {
         let more = entry.adds();
         for clock in 0..64 {
-            let pair = Pair {
-                entry: i as u16,
-                clock,
-            };
-            if met.get(pair) {
+            if met.at(64 * i + clock) {
                 all.conditions += more.conditions;
                 all.entries += more.entries;
             }

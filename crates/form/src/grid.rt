@@ -1,5 +1,5 @@
 // Values for the pairs of an entry and a clock.
-ghost use Rattle.std.specs.Prelude.{◌≡◌, ℕ, length};
+ghost use Rattle.std.specs.Prelude.{◌≡◌, ℕ, ◌<◌, length};
 
 use crate::pair::Pair;
 
@@ -25,11 +25,19 @@ impl<T: Copy> Grid<T> {
         }
     }
 
+    // The value of the pair with that key.
+    pub(crate) fn at(&self, key: usize) -> T
+        requires { key < 4096 }
+        ensures { slice_get (cells_of self.now) key ≡ Some result }
+    {
+        self.cells[key]
+    }
+
     // The value of a pair.
     pub(crate) fn get(&self, pair: Pair) -> T
         ensures { slice_get (cells_of self.now) (key pair.entry pair.clock) ≡ Some result }
     {
-        self.cells[pair.key()]
+        self.at(pair.key())
     }
 
     // Puts the value of a pair.

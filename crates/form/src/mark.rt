@@ -37,8 +37,8 @@ pub(crate) fn mark_sequences(p: &Property, met: &mut Grid<bool>)
 {
     // Stays a loop over keys, whose order is that of the definitions: two loops, over entries and clocks, would state twice what is marked so far.
     for k in (0..64 * p.sequence_count()).rev() {
-        let pair = Pair::of(k);
-        if met.get(pair) {
+        if met.at(k) {
+            let pair = Pair::of(k);
             mark_sequence(p, met, pair);
         }
     }

@@ -2,11 +2,11 @@
 ghost use Rattle.std.specs.Prelude.{◌≡◌, ℕ, ◌+◌, ◌-◌, ◌*◌, ◌<◌, ◌≤◌, length, slice_index_or};
 ghost use Rattle.psl.specs.declared.entry.Formula.TheVariants.{Strong};
 ghost use Rattle.property.specs.Place.{conditions_of, sequences_of, formulas_of};
-ghost use Rattle.form.specs.Grid.{marks_of};
-ghost use Rattle.form.specs.Met.{with_parts, meet_formulas, met};
+ghost use Rattle.form.specs.Grid.{cells_of, marks_of};
+ghost use Rattle.form.specs.Met.{with_parts, meet_formulas, unmarked, met as met_of};
 
 use crate::entries::formula_at;
-use crate::grid::{Grid, Marks};
+use crate::grid::Marks;
 use crate::mark::mark_sequences;
 use crate::pair::Pair;
 use property::place::Property;
@@ -45,8 +45,8 @@ pub(crate) fn mark_formulas(p: &Property, met: &mut Marks)
 {
     // Stays a loop over keys, whose order is that of the definitions: two loops, over entries and clocks, would state twice what is marked so far.
     for k in (0..64 * p.formula_count()).rev() {
-        let pair = Pair::of(k);
-        if met.formulas.get(pair) {
+        if met.formulas.at(k) {
+            let pair = Pair::of(k);
             mark_formula(p, met, pair);
         }
     }
@@ -63,16 +63,13 @@ pub(crate) fn root_pair(p: &Property) -> Pair
     }
 }
 
-// The pairs of formulas and of sequences that are met.
-pub(crate) fn met_pairs(p: &Property) -> Marks
-    ensures { marks_of result ≡ met p.now }
+// Marks the pairs of formulas and of sequences that are met, where none is marked.
+pub(crate) fn mark_met(p: &Property, met: &mut Marks)
+    requires blank_formulas { cells_of met.old.formulas ≡ unmarked }
+    requires blank_sequences { cells_of met.old.sequences ≡ unmarked }
+    ensures { marks_of met.new ≡ met_of p.now }
 {
-    let mut marks = Marks {
-        formulas: Grid::new(false),
-        sequences: Grid::new(false),
-    };
-    marks.formulas.put(root_pair(p), true);
-    mark_formulas(p, &mut marks);
-    mark_sequences(p, &mut marks.sequences);
-    marks
+    met.formulas.put(root_pair(p), true);
+    mark_formulas(p, met);
+    mark_sequences(p, &mut met.sequences);
 }

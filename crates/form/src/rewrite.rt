@@ -10,8 +10,8 @@ ghost use Rattle.form.specs.Rewritten.{RoomFor, Rewritten, Rewrites};
 
 use crate::count::{count, within_limits};
 use crate::draft::{Draft, Rooted};
-use crate::grid::Marks;
-use crate::mark_formula::{met_pairs, root_pair};
+use crate::grid::{Grid, Marks};
+use crate::mark_formula::{mark_met, root_pair};
 use crate::refusal::Refusal;
 use crate::write::write_sequences;
 use crate::write_formula::write_formulas;
@@ -37,8 +37,10 @@ fn rewrite(p: &Property, met: &Marks) -> Rooted
     ensures { Rewritten p.now result.draft result.root }
 {
     let mut draft = fresh(p);
-    let of_sequences = write_sequences(p, &met.sequences, &mut draft);
-    let of_formulas = write_formulas(p, met, &mut draft, &of_sequences);
+    let mut of_sequences = Grid::new(0);
+    let mut of_formulas = Grid::new(0);
+    write_sequences(p, &met.sequences, &mut draft, &mut of_sequences);
+    write_formulas(p, met, &mut draft, &of_sequences, &mut of_formulas);
     let root = of_formulas.get(root_pair(p));
     Rooted { draft, root }
 }
@@ -47,7 +49,11 @@ fn rewrite(p: &Property, met: &Marks) -> Rooted
 pub(crate) fn form_of(p: &Property) -> Result<Rooted, Refusal>
     ensures { MatchResult result (λ made. Rewrites p.now made.draft made.root) (λ e. first_no (questions p.now) ≡ some e) }
 {
-    let met = met_pairs(p);
+    let mut met = Marks {
+        formulas: Grid::new(false),
+        sequences: Grid::new(false),
+    };
+    mark_met(p, &mut met);
     within_limits(count(p, &met))?;
     Ok(rewrite(p, &met))
 }

@@ -50,21 +50,19 @@ pub(crate) fn write_sequence(p: &Property, d: &mut Draft, places: &Grid<u16>, pa
 }
 
 // Adds the image of each marked pair of a sequence and a clock.
-pub(crate) fn write_sequences(p: &Property, met: &Grid<bool>, d: &mut Draft) -> Grid<u16>
+pub(crate) fn write_sequences(p: &Property, met: &Grid<bool>, d: &mut Draft, places: &mut Grid<u16>)
     requires carries { Carries p.now d.old }
     requires closed { SequencesClosed p.now (cells_of met.now) }
     requires room { (length (conditions_in d.old) + total (Is 0) sequence_adds_conditions (sequences_of p.now) (cells_of met.now) (64 * length (sequences_of p.now)) ≤ 256)
         × (length (sequences_in d.old) + total (Is 0) sequence_adds_sequences (sequences_of p.now) (cells_of met.now) (64 * length (sequences_of p.now)) ≤ 256) }
-    ensures { SequencesStand p.now (cells_of met.now) d.old d.new (cells_of result) (64 * length (sequences_of p.now)) }
+    ensures { SequencesStand p.now (cells_of met.now) d.old d.new (cells_of places.new) (64 * length (sequences_of p.now)) }
 {
-    let mut places = Grid::new(0);
     // Stays a loop over keys, whose order is that of the definitions: two loops, over entries and clocks, would state twice what is written so far.
     for k in 0..64 * p.sequence_count() {
-        let pair = Pair::of(k);
-        if met.get(pair) {
-            let r = write_sequence(p, d, &places, pair);
+        if met.at(k) {
+            let pair = Pair::of(k);
+            let r = write_sequence(p, d, &*places, pair);
             places.put(pair, r);
         }
     }
-    places
 }

@@ -59,21 +59,20 @@ pub(crate) fn write_formulas(
     met: &Marks,
     d: &mut Draft,
     sequences: &Grid<u16>,
-) -> Grid<u16>
+    places: &mut Grid<u16>,
+)
     requires carries { Carries p.now d.old }
     requires closed { FormulasClosed p.now (cells_of met.now.formulas) (cells_of met.now.sequences) }
     requires written { SequencesWritten p.now (cells_of met.now.sequences) d.old (cells_of sequences.now) (64 * length (sequences_of p.now)) }
     requires room { Room d.old (total (Strong 0) formula_adds_conditions (formulas_of p.now) (cells_of met.now.formulas) (64 * length (formulas_of p.now))) (total (Strong 0) formula_adds_formulas (formulas_of p.now) (cells_of met.now.formulas) (64 * length (formulas_of p.now))) }
-    ensures { FormulasStand p.now (cells_of met.now.formulas) (cells_of met.now.sequences) d.old d.new (cells_of sequences.now) (cells_of result) (64 * length (formulas_of p.now)) }
+    ensures { FormulasStand p.now (cells_of met.now.formulas) (cells_of met.now.sequences) d.old d.new (cells_of sequences.now) (cells_of places.new) (64 * length (formulas_of p.now)) }
 {
-    let mut places = Grid::new(0);
     // Stays a loop over keys, whose order is that of the definitions: two loops, over entries and clocks, would state twice what is written so far.
     for k in 0..64 * p.formula_count() {
-        let pair = Pair::of(k);
-        if met.formulas.get(pair) {
-            let r = write_formula(p, d, sequences, &places, pair);
+        if met.formulas.at(k) {
+            let pair = Pair::of(k);
+            let r = write_formula(p, d, sequences, &*places, pair);
             places.put(pair, r);
         }
     }
-    places
 }

@@ -24,7 +24,7 @@ simulated_mirror x = record { own = x.other; other = x.own }
 abbrev pub simulated_equals : Simulated → Simulated → Bool
 simulated_equals x y = (x.own.bits == y.own.bits) && x.other.bits == y.other.bits
 
-simulated_path : (x y : Simulated) → x.own.bits ≡ y.own.bits → x.other.bits ≡ y.other.bits → x ≡ y
+pub simulated_path : (x y : Simulated) → x.own.bits ≡ y.own.bits → x.other.bits ≡ y.other.bits → x ≡ y
 simulated_path x y p q = ap₂ (λ (a b : Atoms). record { own = a; other = b }) (atoms_path x.own y.own p) (atoms_path x.other y.other q)
 
 pub simulated_few : (1 ≤ 32) × (32 ≤ 32)

@@ -22,7 +22,7 @@ wire_mirror x = x
 abbrev pub wire_equals : Wire → Wire → Bool
 wire_equals x y = x.atoms.bits == y.atoms.bits
 
-wire_path : (x y : Wire) → x.atoms.bits ≡ y.atoms.bits → x ≡ y
+pub wire_path : (x y : Wire) → x.atoms.bits ≡ y.atoms.bits → x ≡ y
 wire_path x y p = ap (λ (a : Atoms). record { atoms = a }) (atoms_path x.atoms y.atoms p)
 
 pub wire_few : (1 ≤ 32) × (32 ≤ 32)

@@ -6,13 +6,13 @@ use Rattle.form.specs.Met.{meet_formulas}
 use Rattle.form.proofs.FormulaMarks.{meet_yes, meet_no, meet_all}
 use Rattle.form.proofs.mark_formula.mark_formulas.Goals as goal
 
-pub loop-k-preserved-then-get : goal.loop-k-preserved-then-get
-loop-k-preserved-then-get c =
+pub loop-k-preserved-then-at : goal.loop-k-preserved-then-at
+loop-k-preserved-then-at c =
     let fs = formulas_of c.args.p.now in
     let m = marks_of c.loop-k.met in
     let k = c.loop-k.k - 1 in
     let up : c.loop-k.k ≡ k + 1 = omega (arith, c.loop-k-test.true) in
-    let marked = get_or_from_slice_get m.formulas k _ false (rw c.of-pair.ensures.same at c.get.ensures) ∙ c.if-get.true in
+    let marked = get_or_from_slice_get m.formulas k _ false c.at.ensures ∙ c.if-at.true in
     ap (meet_formulas fs k) (rw (c.of-pair.ensures.entry, c.of-pair.ensures.clock) at c.mark_formula.ensures) ∙ sym (meet_yes fs k m marked) ∙ ap (λ j. meet_formulas fs j m) (sym up) ∙ c.loop-k.invariant
 
 pub loop-k-preserved : goal.loop-k-preserved
@@ -21,7 +21,7 @@ loop-k-preserved c =
     let m = marks_of c.loop-k.met in
     let k = c.loop-k.k - 1 in
     let up : c.loop-k.k ≡ k + 1 = omega (arith, c.loop-k-test.true) in
-    let unmarked = get_or_from_slice_get m.formulas k _ false (rw c.of-pair.ensures.same at c.get.ensures) ∙ c.if-get.false in
+    let unmarked = get_or_from_slice_get m.formulas k _ false c.at.ensures ∙ c.if-at.false in
     sym (meet_no fs k m unmarked) ∙ ap (λ j. meet_formulas fs j m) (sym up) ∙ c.loop-k.invariant
 
 pub returns : goal.returns

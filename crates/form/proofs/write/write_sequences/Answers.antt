@@ -7,7 +7,7 @@ use Rattle.form.specs.SequenceImages.{SequencesStand}
 use Rattle.form.proofs.Grown.{grows_none}
 use Rattle.form.proofs.SequenceSteps.{step_yes, step_no, ready_here, room_here, inside}
 use Rattle.form.proofs.write.write_sequences.Goals as goal
-use Rattle.form.proofs.write.write_sequences.Goals.{then-get, else-get}
+use Rattle.form.proofs.write.write_sequences.Goals.{then-at, else-at}
 
 pub loop-k-init : goal.loop-k-init
 loop-k-init c = (grows_none c.args.d.now, c.requires.carries, (λ i c l h m. let z : ⊥ = omega arith in absurd z), omega arith, omega arith, refl)
@@ -19,7 +19,7 @@ write_sequence-r-requires c =
     let inv = c.loop-k.invariant in
     let k = c.loop-k.k in
     let n = length (sequences_of p) in
-    let marked = get_or_from_slice_get met k _ false (rw c.of-pair.ensures.same at c.get.ensures) ∙ c.if-get.true in
+    let marked = get_or_from_slice_get met k _ false c.at.ensures ∙ c.if-at.true in
     let h : k < 64 * n = omega (arith, c.loop-k-test.true, c.sequence_count-k-end.ensures.value) in
     let ready = ready_here p met _ _ _ k inv c.requires.closed marked h (few_conditions p) in
     record {
@@ -36,15 +36,15 @@ loop-k-preserved c =
     let met = c.args.met.now.cells in
     let inv = c.loop-k.invariant in
     let k = c.loop-k.k in
-    let is = get_or_from_slice_get met k _ false (rw c.of-pair.ensures.same at c.get.ensures) in
+    let is = get_or_from_slice_get met k _ false c.at.ensures in
     let room : k < length c.loop-k.places.cells = omega (arith, c.loop-k.places.long, c.loop-k-test.true, c.sequence_count-k-end.ensures.high_bound) in
-    elim c.if-get.branch [
-      | then-get w ↦
-          subst (λ d. SequencesStand p met c.args.d.now d c.if-get.places.cells (k + 1)) (sym w.d-is)
-          (subst (λ ps. SequencesStand p met c.args.d.now w.write_sequence-r.new.d ps (k + 1)) (sym (ap cells_of w.places-is ∙ (rw c.of-pair.ensures.same at w.put.ensures)))
-          (step_yes p met _ _ _ k inv _ _ (is ∙ w.if-get.true) room (rw (c.of-pair.ensures.entry, c.of-pair.ensures.clock) at w.write_sequence-r.ensures)))
-      | else-get w ↦
-          subst (λ d. SequencesStand p met c.args.d.now d c.if-get.places.cells (k + 1)) (sym w.d-is)
+    elim c.if-at.branch [
+      | then-at w ↦
+          subst (λ d. SequencesStand p met c.args.d.now d c.if-at.places.cells (k + 1)) (sym w.d-is)
+          (subst (λ ps. SequencesStand p met c.args.d.now w.write_sequence-r.new.d ps (k + 1)) (sym (ap cells_of w.places-is ∙ (rw w.of-pair.ensures.same at w.put.ensures)))
+          (step_yes p met _ _ _ k inv _ _ (is ∙ w.if-at.true) room (rw (w.of-pair.ensures.entry, w.of-pair.ensures.clock) at w.write_sequence-r.ensures)))
+      | else-at w ↦
+          subst (λ d. SequencesStand p met c.args.d.now d c.if-at.places.cells (k + 1)) (sym w.d-is)
           (subst (λ ps. SequencesStand p met c.args.d.now c.loop-k.d ps (k + 1)) (sym (ap cells_of w.places-is))
-          (step_no p met _ _ _ k inv (is ∙ w.if-get.false)))
+          (step_no p met _ _ _ k inv (is ∙ w.if-at.false)))
     ]

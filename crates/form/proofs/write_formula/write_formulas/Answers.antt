@@ -8,7 +8,7 @@ use Rattle.form.proofs.Grown.{grows_none}
 use Rattle.form.proofs.SequenceSteps.{inside}
 use Rattle.form.proofs.FormulaSteps.{step_yes, step_no, ready_here, room_here}
 use Rattle.form.proofs.write_formula.write_formulas.Goals as goal
-use Rattle.form.proofs.write_formula.write_formulas.Goals.{then-get, else-get}
+use Rattle.form.proofs.write_formula.write_formulas.Goals.{then-at, else-at}
 
 pub loop-k-init : goal.loop-k-init
 loop-k-init c = (grows_none c.args.d.now, c.requires.carries, (λ i c l h m. let z : ⊥ = omega arith in absurd z), omega arith, omega arith, c.requires.written, refl)
@@ -21,7 +21,7 @@ write_formula-r-requires c =
     let inv = c.loop-k.invariant in
     let k = c.loop-k.k in
     let n = length (formulas_of p) in
-    let marked = get_or_from_slice_get fm k _ false (rw c.of-pair.ensures.same at c.get.ensures) ∙ c.if-get.true in
+    let marked = get_or_from_slice_get fm k _ false c.at.ensures ∙ c.if-at.true in
     let h : k < 64 * n = omega (arith, c.loop-k-test.true, c.formula_count-k-end.ensures.value) in
     let ready = ready_here p fm sm _ _ _ _ k inv c.requires.closed marked h (few_conditions p) in
     record {
@@ -40,15 +40,15 @@ loop-k-preserved c =
     let sp = c.args.sequences.now.cells in
     let inv = c.loop-k.invariant in
     let k = c.loop-k.k in
-    let is = get_or_from_slice_get fm k _ false (rw c.of-pair.ensures.same at c.get.ensures) in
+    let is = get_or_from_slice_get fm k _ false c.at.ensures in
     let room : k < length c.loop-k.places.cells = omega (arith, c.loop-k.places.long, c.loop-k-test.true, c.formula_count-k-end.ensures.high_bound) in
-    elim c.if-get.branch [
-      | then-get w ↦
-          subst (λ d. FormulasStand p fm sm c.args.d.now d sp c.if-get.places.cells (k + 1)) (sym w.d-is)
-          (subst (λ ps. FormulasStand p fm sm c.args.d.now w.write_formula-r.new.d sp ps (k + 1)) (sym (ap cells_of w.places-is ∙ (rw c.of-pair.ensures.same at w.put.ensures)))
-          (step_yes p fm sm _ _ _ _ k inv _ _ (is ∙ w.if-get.true) room (rw (c.of-pair.ensures.entry, c.of-pair.ensures.clock) at w.write_formula-r.ensures)))
-      | else-get w ↦
-          subst (λ d. FormulasStand p fm sm c.args.d.now d sp c.if-get.places.cells (k + 1)) (sym w.d-is)
+    elim c.if-at.branch [
+      | then-at w ↦
+          subst (λ d. FormulasStand p fm sm c.args.d.now d sp c.if-at.places.cells (k + 1)) (sym w.d-is)
+          (subst (λ ps. FormulasStand p fm sm c.args.d.now w.write_formula-r.new.d sp ps (k + 1)) (sym (ap cells_of w.places-is ∙ (rw w.of-pair.ensures.same at w.put.ensures)))
+          (step_yes p fm sm _ _ _ _ k inv _ _ (is ∙ w.if-at.true) room (rw (w.of-pair.ensures.entry, w.of-pair.ensures.clock) at w.write_formula-r.ensures)))
+      | else-at w ↦
+          subst (λ d. FormulasStand p fm sm c.args.d.now d sp c.if-at.places.cells (k + 1)) (sym w.d-is)
           (subst (λ ps. FormulasStand p fm sm c.args.d.now c.loop-k.d sp ps (k + 1)) (sym (ap cells_of w.places-is))
-          (step_no p fm sm _ _ _ _ k inv (is ∙ w.if-get.false)))
+          (step_no p fm sm _ _ _ _ k inv (is ∙ w.if-at.false)))
     ]
